@@ -1,0 +1,4 @@
+pub mod Codes
+pub mod Letters
+pub mod Phases
+pub mod Refusals
