@@ -1,8 +1,12 @@
--- The letters of sides, kinds, times in force and causes of leaving, as ASCII codes. Assumes nothing.
+-- The letters of sides, kinds, times in force and causes of leaving. Assumes nothing.
+--     letter "B"      the ASCII code of a letter
 --     sides, kinds, times, causes      every case
---     side-letter s, kind-letter k, time-letter t, cause-letter c      the letter of each
+--     side-letter s, kind-letter k, time-letter t, cause-letter c      the letter of each case
 use mathlib.Core.List.{List, [], _∷_}
 use Prim.Native.Nat.{ℕ}
+use Prim.Native.String.{String}
+use lib.Chars.{codes}
+use lib.ListN.{getD}
 use Rattle.orders.specs.declared.cause.Cause.{Cause}
 use Rattle.orders.specs.declared.cause.Cause.the-variants.{Cancelled, Ended, Killed}
 use Rattle.orders.specs.declared.kind.Kind.{Kind}
@@ -12,38 +16,37 @@ use Rattle.orders.specs.declared.side.Side.the-variants.{Buy, Sell}
 use Rattle.orders.specs.declared.time.TimeInForce.{TimeInForce}
 use Rattle.orders.specs.declared.time.TimeInForce.the-variants.{Day, GoodTillCancelled, GoodTillDate}
 
+abbrev pub letter : String → ℕ
+letter text = getD (codes text) 0 0
+
 abbrev pub sides : List Side
 sides = Buy ∷ Sell ∷ []
 
--- B, S
 abbrev pub side-letter : Side → ℕ
-side-letter Buy = 66
-side-letter Sell = 83
+side-letter Buy = letter "B"
+side-letter Sell = letter "S"
 
 abbrev pub kinds : List Kind
 kinds = Limit ∷ AllOrNone ∷ MinimumQuantity ∷ FillOrKill ∷ []
 
--- L, A, M, F
 abbrev pub kind-letter : Kind → ℕ
-kind-letter Limit = 76
-kind-letter AllOrNone = 65
-kind-letter MinimumQuantity = 77
-kind-letter FillOrKill = 70
+kind-letter Limit = letter "L"
+kind-letter AllOrNone = letter "A"
+kind-letter MinimumQuantity = letter "M"
+kind-letter FillOrKill = letter "F"
 
 abbrev pub times : List TimeInForce
 times = Day ∷ GoodTillCancelled ∷ GoodTillDate ∷ []
 
--- D, C, G
 abbrev pub time-letter : TimeInForce → ℕ
-time-letter Day = 68
-time-letter GoodTillCancelled = 67
-time-letter GoodTillDate = 71
+time-letter Day = letter "D"
+time-letter GoodTillCancelled = letter "C"
+time-letter GoodTillDate = letter "G"
 
 abbrev pub causes : List Cause
 causes = Cancelled ∷ Ended ∷ Killed ∷ []
 
--- C, E, K
 abbrev pub cause-letter : Cause → ℕ
-cause-letter Cancelled = 67
-cause-letter Ended = 69
-cause-letter Killed = 75
+cause-letter Cancelled = letter "C"
+cause-letter Ended = letter "E"
+cause-letter Killed = letter "K"

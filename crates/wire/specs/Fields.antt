@@ -1,0 +1,52 @@
+-- The fields of a record, by the bytes behind its mark. Assumes nothing.
+--     big-endian l          the number that the bytes of l write, the highest byte first
+--     offset widths k       how many bytes stand before field k, counted from 0
+--     field widths l k      the number in field k
+--     entry-widths, cancel-widths      the bytes of each field, in their order
+--     entry-of l, cancel-of l          the fields of an entry and of a cancel
+use mathlib.Core.List.{List, [], _∷_}
+use Prim.Native.Nat.{ℕ, _+_, _*_}
+use lib.ListN.{getD, take, drop}
+use Rattle.orders.specs.declared.entry.Entry.{Entry}
+use Rattle.orders.specs.declared.entry.Cancel.{Cancel}
+
+abbrev pub big-endian-from : ℕ → List ℕ → ℕ
+big-endian-from n [] = n
+big-endian-from n (x ∷ xs) = big-endian-from (n * 256 + x) xs
+
+abbrev pub big-endian : List ℕ → ℕ
+big-endian l = big-endian-from 0 l
+
+abbrev pub sum : List ℕ → ℕ
+sum [] = 0
+sum (x ∷ xs) = x + sum xs
+
+abbrev pub offset : List ℕ → ℕ → ℕ
+offset widths k = sum (take k widths)
+
+abbrev pub field : List ℕ → List ℕ → ℕ → ℕ
+field widths l k = big-endian (take (getD widths k 0) (drop (offset widths k) l))
+
+-- member, side, price, quantity, kind, minimum, time, designation, date
+abbrev pub entry-widths : List ℕ
+entry-widths = 4 ∷ 1 ∷ 4 ∷ 4 ∷ 1 ∷ 4 ∷ 1 ∷ 1 ∷ 4 ∷ []
+
+abbrev pub entry-of : List ℕ → Entry
+entry-of l = record {
+  member = field entry-widths l 0;
+  side = field entry-widths l 1;
+  price = field entry-widths l 2;
+  quantity = field entry-widths l 3;
+  kind = field entry-widths l 4;
+  minimum = field entry-widths l 5;
+  time = field entry-widths l 6;
+  designation = field entry-widths l 7;
+  date = field entry-widths l 8;
+}
+
+-- member, serial
+abbrev pub cancel-widths : List ℕ
+cancel-widths = 4 ∷ 8 ∷ []
+
+abbrev pub cancel-of : List ℕ → Cancel
+cancel-of l = record { member = field cancel-widths l 0; serial = field cancel-widths l 1 }
