@@ -49,5 +49,5 @@ module _ (l k : List ℕ) (n p q : ℕ) (b : Bool) (same : k ≡ l) (so-far : Re
 
   pub finished : b ≡ false → Listed l n q
   finished e =
-    let still : p ≡ q = omega (arith, stays p (front (drop p l)) (found ∙ e), moved) in
-    subst (λ x. Listed l n x) still (record { records = so-far; last = found ∙ e })
+      let still : p ≡ q = omega (arith, stays p (front (drop p l)) (found ∙ e), moved) in
+      subst (λ x. Listed l n x) still (record { records = so-far; last = found ∙ e })

@@ -35,3 +35,6 @@ fn run(rt: &LibcRuntime) -> Result<(), AnyError> {
     }
     Ok(())
 }
+
+#[cfg(test)]
+mod tests;

@@ -32,5 +32,9 @@ fn hex_digit(digit: u8) -> char
     requires { ⌜ digit < 16 ⌝ }
     ensures { λ r. ⌜ r ≡ glyph false digit ⌝ }
 {
-    if digit < 10 { char::from(b'0' + digit) } else { char::from(b'a' + (digit - 10)) }
+    if digit < 10 {
+        char::from(b'0' + digit)
+    } else {
+        char::from(b'a' + (digit - 10))
+    }
 }

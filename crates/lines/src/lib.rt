@@ -3,3 +3,5 @@ pub mod letter;
 pub mod price;
 pub mod record;
 pub mod refusal;
+#[cfg(test)]
+mod tests;

@@ -34,11 +34,18 @@ impl fmt::Display for EntryLine as EntryLineDisplay {
     ghost shown = { λ l. Some (entry-text (l .0)) };
 
     fn fmt<W: fmt::Write>(&self, f: &mut fmt::Formatter<W>) -> fmt::Result {
-        let Entry { member, quantity, .. } = self.0;
+        let Entry {
+            member,
+            quantity,
+            ..
+        } = self.0;
         let side = Letter(self.0.side);
         let price = Price(self.0.price);
         let terms = Terms(self.0);
-        write!(f, "EN member {member}, side {side}, price {price}, quantity {quantity}, {terms}")
+        write!(
+            f,
+            "EN member {member}, side {side}, price {price}, quantity {quantity}, {terms}"
+        )
     }
 }
 
@@ -50,10 +57,18 @@ impl fmt::Display for Terms as TermsDisplay {
     ghost shown = { λ t. Some (terms-text (t .0)) };
 
     fn fmt<W: fmt::Write>(&self, f: &mut fmt::Formatter<W>) -> fmt::Result {
-        let Entry { minimum, designation, date, .. } = self.0;
+        let Entry {
+            minimum,
+            designation,
+            date,
+            ..
+        } = self.0;
         let kind = Letter(self.0.kind);
         let time = Letter(self.0.time);
-        write!(f, "kind {kind}, minimum {minimum}, time {time}, designation {designation}, date {date}")
+        write!(
+            f,
+            "kind {kind}, minimum {minimum}, time {time}, designation {designation}, date {date}"
+        )
     }
 }
 

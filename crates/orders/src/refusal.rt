@@ -163,8 +163,7 @@ impl Reason {
         ensures { λ r. ⌜ r ≡ layer self ⌝ }
     {
         match self {
-            Reason::UnknownMark
-            | Reason::CutShort => Layer::Reader,
+            Reason::UnknownMark | Reason::CutShort => Layer::Reader,
             Reason::UnknownSide
             | Reason::PriceOutOfRange
             | Reason::QuantityOutOfRange

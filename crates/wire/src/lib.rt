@@ -2,3 +2,5 @@
 pub mod fields;
 pub mod reader;
 pub mod record;
+#[cfg(test)]
+mod tests;

@@ -1,6 +1,7 @@
 // The reader covers the caller's bytes and remembers how far it has come.
 ghost use Prim.Native.Nat.{_≤_};
 ghost use lib.ListN.{length};
+
 pub mod reading;
 
 #[derive(Drop)]

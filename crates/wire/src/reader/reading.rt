@@ -33,7 +33,10 @@ impl<'a> Reader<'a> {
         let rest = &self.input[self.at..];
         let found = match first(rest) {
             Ok(found) => found,
-            Err(reason) => return Err(Refusal { reason, place: self.at }),
+            Err(reason) => return Err(Refusal {
+                reason,
+                place: self.at,
+            }),
         };
         match found {
             Some(record) => {
