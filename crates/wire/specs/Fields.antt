@@ -1,21 +1,18 @@
 -- The fields of a record, by the bytes behind its mark. Assumes nothing.
---     big-endian l          the number that the bytes of l write, the highest byte first
+--     number l p n          the number that the n bytes of l from position p write, the highest byte first
 --     offset widths k       how many bytes stand before field k, counted from 0
 --     field widths l k      the number in field k
 --     entry-widths, cancel-widths      the bytes of each field, in their order
 --     entry-of l, cancel-of l          the fields of an entry and of a cancel
 use mathlib.Core.List.{List, [], _∷_}
-use Prim.Native.Nat.{ℕ, _+_, _*_}
-use lib.ListN.{getD, take, drop}
+use Prim.Native.Nat.{ℕ, zero, suc, _+_, _*_}
+use lib.ListN.{getD, take}
 use Rattle.orders.specs.declared.entry.Entry.{Entry}
 use Rattle.orders.specs.declared.entry.Cancel.{Cancel}
 
-abbrev pub big-endian-from : ℕ → List ℕ → ℕ
-big-endian-from n [] = n
-big-endian-from n (x ∷ xs) = big-endian-from (n * 256 + x) xs
-
-abbrev pub big-endian : List ℕ → ℕ
-big-endian l = big-endian-from 0 l
+abbrev pub number : List ℕ → ℕ → ℕ → ℕ
+number l p zero = 0
+number l p (suc n) = number l p n * 256 + getD l (p + n) 0
 
 abbrev pub sum : List ℕ → ℕ
 sum [] = 0
@@ -25,7 +22,7 @@ abbrev pub offset : List ℕ → ℕ → ℕ
 offset widths k = sum (take k widths)
 
 abbrev pub field : List ℕ → List ℕ → ℕ → ℕ
-field widths l k = big-endian (take (getD widths k 0) (drop (offset widths k) l))
+field widths l k = number l (offset widths k) (getD widths k 0)
 
 -- member, side, price, quantity, kind, minimum, time, designation, date
 abbrev pub entry-widths : List ℕ

@@ -1,8 +1,8 @@
 // The fields of an entry and of a cancel, from the bytes behind the mark.
 ghost use mathlib.Core.Path.{_≡_};
-ghost use Prim.Native.Nat.{_+_, _<_, _≤_};
-ghost use lib.ListN.{drop, getD, length, take};
-ghost use Rattle.wire.specs.Fields.{big-endian, cancel-of, entry-of};
+ghost use Prim.Native.Nat.{_+_, _≤_};
+ghost use lib.ListN.{length};
+ghost use Rattle.wire.specs.Fields.{cancel-of, entry-of, number};
 use orders::entry::Cancel;
 use orders::entry::Entry;
 
@@ -36,7 +36,7 @@ pub fn cancel(bytes: &[u8; 12]) -> Cancel
 // The number in the four bytes at a place.
 fn u32_at(bytes: &[u8], at: usize) -> u32
     requires { ⌜ at + 4 ≤ length (now bytes) ⌝ }
-    ensures { λ r. ⌜ r ≡ big-endian (take 4 (drop at (now (bytes .entry)))) ⌝ }
+    ensures { λ r. ⌜ r ≡ number (now (bytes .entry)) at 4 ⌝ }
 {
     u32::from_be_bytes([bytes[at], bytes[at + 1], bytes[at + 2], bytes[at + 3]])
 }
@@ -44,7 +44,7 @@ fn u32_at(bytes: &[u8], at: usize) -> u32
 // The number in the eight bytes at a place.
 fn u64_at(bytes: &[u8], at: usize) -> u64
     requires { ⌜ at + 8 ≤ length (now bytes) ⌝ }
-    ensures { λ r. ⌜ r ≡ big-endian (take 8 (drop at (now (bytes .entry)))) ⌝ }
+    ensures { λ r. ⌜ r ≡ number (now (bytes .entry)) at 8 ⌝ }
 {
     u64::from_be_bytes([
         bytes[at],

@@ -2,6 +2,7 @@
 ghost use Prim.Native.Nat.{_≤_};
 ghost use lib.ListN.{length};
 
+pub mod making;
 pub mod reading;
 
 #[derive(Drop)]
