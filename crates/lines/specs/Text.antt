@@ -1,6 +1,7 @@
 -- What the desk prints, as lists of ASCII codes. Assumes nothing.
 --     text parts         the parts one after another
 --     price-text p       a price with its three decimals
+--     printable b        b is the code of a printable ASCII character
 --     letter-text b      a printable character as itself, another byte as \x and two hexadecimal digits
 --     entry-text e, cancel-text c, refusal-text r      the line of each; terms-text e is an entry's second half
 --     item-text i        the line of what stands on the wire

@@ -1,7 +1,8 @@
 -- The phases of a day and the sets of its sessions, with their numbers. Assumes nothing.
 --     phases, all-sessions      every case, in the order of the numbers
 --     phase-number p            the place of a phase in the day, from 0
---     designation-of s           the number that stands for a set of sessions
+--     session-set o c l         the sessions by whether Opening, Core and Late are among them
+--     designation-of s          the number that stands for a set of sessions
 use mathlib.Core.Bool.{Bool, true, false, cond}
 use mathlib.Core.List.{List, [], _∷_}
 use Prim.Native.Nat.{ℕ, _+_}

@@ -1,11 +1,11 @@
 -- The fields of a record, by the bytes behind its mark. Assumes nothing.
 --     number l p n          the number that the n bytes of l from position p write, the highest byte first
---     offset widths k       how many bytes stand before field k, counted from 0
+--     offset widths k       how many bytes stand before field k, the first being field 1
 --     field widths l k      the number in field k
 --     entry-widths, cancel-widths      the bytes of each field, in their order
 --     entry-of l, cancel-of l          the fields of an entry and of a cancel
 use mathlib.Core.List.{List, [], _∷_}
-use Prim.Native.Nat.{ℕ, zero, suc, _+_, _*_}
+use Prim.Native.Nat.{ℕ, zero, suc, _+_, _-_, _*_}
 use lib.ListN.{getD, take}
 use Rattle.orders.specs.declared.entry.Entry.{Entry}
 use Rattle.orders.specs.declared.entry.Cancel.{Cancel}
@@ -19,10 +19,10 @@ sum [] = 0
 sum (x ∷ xs) = x + sum xs
 
 abbrev pub offset : List ℕ → ℕ → ℕ
-offset widths k = sum (take k widths)
+offset widths k = sum (take (k - 1) widths)
 
 abbrev pub field : List ℕ → List ℕ → ℕ → ℕ
-field widths l k = number l (offset widths k) (getD widths k 0)
+field widths l k = number l (offset widths k) (getD widths (k - 1) 0)
 
 -- member, side, price, quantity, kind, minimum, time, designation, date
 abbrev pub entry-widths : List ℕ
@@ -30,15 +30,15 @@ entry-widths = 4 ∷ 1 ∷ 4 ∷ 4 ∷ 1 ∷ 4 ∷ 1 ∷ 1 ∷ 4 ∷ []
 
 abbrev pub entry-of : List ℕ → Entry
 entry-of l = record {
-  member = field entry-widths l 0;
-  side = field entry-widths l 1;
-  price = field entry-widths l 2;
-  quantity = field entry-widths l 3;
-  kind = field entry-widths l 4;
-  minimum = field entry-widths l 5;
-  time = field entry-widths l 6;
-  designation = field entry-widths l 7;
-  date = field entry-widths l 8;
+  member = field entry-widths l 1;
+  side = field entry-widths l 2;
+  price = field entry-widths l 3;
+  quantity = field entry-widths l 4;
+  kind = field entry-widths l 5;
+  minimum = field entry-widths l 6;
+  time = field entry-widths l 7;
+  designation = field entry-widths l 8;
+  date = field entry-widths l 9;
 }
 
 -- member, serial
@@ -46,4 +46,4 @@ abbrev pub cancel-widths : List ℕ
 cancel-widths = 4 ∷ 8 ∷ []
 
 abbrev pub cancel-of : List ℕ → Cancel
-cancel-of l = record { member = field cancel-widths l 0; serial = field cancel-widths l 1 }
+cancel-of l = record { member = field cancel-widths l 1; serial = field cancel-widths l 2 }
