@@ -1,4 +1,9 @@
 // The words that the desk is started with.
+ghost use mathlib.Core.List.{map};
+ghost use mathlib.Core.Path.{_≡_};
+ghost use Rattle.desk.specs.Arguments.{asked, asked-by};
+ghost use Rattle.std.specs.Of.String.{string-bytes};
+ghost use Rattle.std.specs.Results.{okPart};
 use std::error::Error;
 use std::fmt;
 
@@ -19,7 +24,7 @@ many bytes were read and how many records were seen.
 #[derive(Clone, Copy, PartialEq, Eq, Debug)]
 pub enum Request {
     Help,
-    List,
+    Listing,
 }
 
 #[derive(Clone, Copy, PartialEq, Eq, Debug)]
@@ -28,15 +33,26 @@ pub enum BadArguments<'a> {
     TooMany,
 }
 
-pub fn parse<'a>(words: &'a [String]) -> Result<Request, BadArguments<'a>> {
-    match words {
-        [] => Ok(Request::List),
-        [word] => match word.as_str() {
-            "-" => Ok(Request::List),
-            "--help" => Ok(Request::Help),
-            other => Err(BadArguments::Unknown(other)),
-        },
-        _ => Err(BadArguments::TooMany),
+// What the words after the program's name ask for.
+pub fn parse<'a>(words: &'a [String]) -> Result<Request, BadArguments<'a>>
+    ensures { λ r. ⌜ okPart r ≡ asked (map string-bytes (now (words .entry))) ⌝ }
+{
+    if words.len() > 1 {
+        return Err(BadArguments::TooMany);
+    }
+    match words.first() {
+        Some(word) => parse_word(word.as_str()),
+        None => Ok(Request::Listing),
+    }
+}
+
+fn parse_word<'a>(word: &'a str) -> Result<Request, BadArguments<'a>>
+    ensures { λ r. ⌜ okPart r ≡ asked-by (now (word .entry)) ⌝ }
+{
+    match word {
+        "-" => Ok(Request::Listing),
+        "--help" => Ok(Request::Help),
+        other => Err(BadArguments::Unknown(other)),
     }
 }
 

@@ -27,7 +27,7 @@ fn run(rt: &LibcRuntime) -> Result<(), AnyError> {
     }
     match parse(words.as_slice())? {
         Request::Help => rt.print(arguments::HELP)?,
-        Request::List => {
+        Request::Listing => {
             let mut input = Vec::new(rt.alloc());
             rt.stdin().read_to_end(&mut input)?;
             list(rt, input.as_slice())?;

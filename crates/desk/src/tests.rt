@@ -23,8 +23,8 @@ fn words(heap: Global, texts: &[&str]) -> Result<Vec<String>, AllocError> {
 #[test]
 fn arguments_are_read(rt: LibcRuntime) -> Result<(), Fail> {
     let heap = rt.alloc();
-    check_eq(parse(words(heap, &[])?.as_slice()), Ok(Request::List))?;
-    check_eq(parse(words(heap, &["-"])?.as_slice()), Ok(Request::List))?;
+    check_eq(parse(words(heap, &[])?.as_slice()), Ok(Request::Listing))?;
+    check_eq(parse(words(heap, &["-"])?.as_slice()), Ok(Request::Listing))?;
     check_eq(
         parse(words(heap, &["--help"])?.as_slice()),
         Ok(Request::Help),
