@@ -4,14 +4,11 @@ use mathlib.Core.Path.{_≡_, refl, ap}
 use Prim.Native.Nat.{ℕ, _≤_}
 use native.Mathlib.Omega.{arith}
 use lib.ListN.{length, getD}
-use Rattle.std.specs.declared.option.Option.{Option}
-use Rattle.std.specs.declared.option.Option.the-variants.{Some, None}
-use Rattle.desk.specs.Arguments.{asked, asked-by}
-use Rattle.desk.specs.declared.arguments.Request.{Request}
+use Rattle.desk.specs.Arguments.{Asked, for, too-many, asked, asked-by}
 use Rattle.desk.specs.declared.arguments.Request.the-variants.{Listing}
 
 module _ {X : Type 0} (text : X → List ℕ) where
-  pub no-word : (l : List X) → length l ≡ 0 → Some Listing ≡ asked (map text l)
+  pub no-word : (l : List X) → length l ≡ 0 → for Listing ≡ asked (map text l)
   no-word [] h = refl
   no-word (x ∷ l) h = absurd (omega arith)
 
@@ -20,7 +17,7 @@ module _ {X : Type 0} (text : X → List ℕ) where
   one-word (y ∷ []) x h e = ap (λ z. asked-by (text z)) e
   one-word (y ∷ z ∷ l) x h e = absurd (omega arith)
 
-  pub more-words : (l : List X) → 2 ≤ length l → None ≡ asked (map text l)
+  pub more-words : (l : List X) → 2 ≤ length l → too-many ≡ asked (map text l)
   more-words [] h = absurd (omega arith)
   more-words (y ∷ []) h = absurd (omega arith)
   more-words (y ∷ z ∷ l) h = refl

@@ -1,9 +1,8 @@
 // The words that the desk is started with.
 ghost use mathlib.Core.List.{map};
 ghost use mathlib.Core.Path.{_≡_};
-ghost use Rattle.desk.specs.Arguments.{asked, asked-by};
+ghost use Rattle.desk.specs.Arguments.{answered, asked, asked-by};
 ghost use Rattle.std.specs.Of.String.{string-bytes};
-ghost use Rattle.std.specs.Results.{okPart};
 use std::error::Error;
 use std::fmt;
 
@@ -35,7 +34,7 @@ pub enum BadArguments<'a> {
 
 // What the words after the program's name ask for.
 pub fn parse<'a>(words: &'a [String]) -> Result<Request, BadArguments<'a>>
-    ensures { λ r. ⌜ okPart r ≡ asked (map string-bytes (now (words .entry))) ⌝ }
+    ensures { λ r. ⌜ answered r ≡ asked (map string-bytes (now (words .entry))) ⌝ }
 {
     if words.len() > 1 {
         return Err(BadArguments::TooMany);
@@ -47,7 +46,7 @@ pub fn parse<'a>(words: &'a [String]) -> Result<Request, BadArguments<'a>>
 }
 
 fn parse_word<'a>(word: &'a str) -> Result<Request, BadArguments<'a>>
-    ensures { λ r. ⌜ okPart r ≡ asked-by (now (word .entry)) ⌝ }
+    ensures { λ r. ⌜ answered r ≡ asked-by (now (word .entry)) ⌝ }
 {
     match word {
         "-" => Ok(Request::Listing),
@@ -59,7 +58,7 @@ fn parse_word<'a>(word: &'a str) -> Result<Request, BadArguments<'a>>
 pub impl<'a> fmt::Display for BadArguments<'a> as BadArgumentsDisplay {
     fn fmt<W: fmt::Write>(&self, f: &mut fmt::Formatter<W>) -> fmt::Result {
         match self {
-            BadArguments::Unknown(word) => write!(f, "unknown argument '{word}' (see desk --help)"),
+            BadArguments::Unknown(word) => write!(f, "unknown argument {word:?} (see desk --help)"),
             BadArguments::TooMany => write!(f, "more than one argument (see desk --help)"),
         }
     }

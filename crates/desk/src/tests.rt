@@ -37,8 +37,14 @@ fn arguments_are_read(rt: LibcRuntime) -> Result<(), Fail> {
 
 #[test]
 fn bad_arguments_are_one_clear_line(rt: LibcRuntime) -> Result<(), Fail> {
-    let line = format!(rt.alloc(), "{}", BadArguments::Unknown("2016"))?;
-    check_eq(line.as_str(), "unknown argument '2016' (see desk --help)")
+    let heap = rt.alloc();
+    let line = format!(heap, "{}", BadArguments::Unknown("2016"))?;
+    check_eq(line.as_str(), "unknown argument \"2016\" (see desk --help)")?;
+    let broken = format!(heap, "{}", BadArguments::Unknown("a\nb"))?;
+    check_eq(
+        broken.as_str(),
+        "unknown argument \"a\\nb\" (see desk --help)",
+    )
 }
 
 #[test]

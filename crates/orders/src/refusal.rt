@@ -71,6 +71,7 @@ pub struct Refusal {
 }
 
 impl Layer {
+    // The layer's number in a refusal.
     pub fn number(self) -> u8
         ensures value { λ r. ⌜ r ≡ layer-number self ⌝ }
         ensures back { λ r. ⌜ named layer-number layers r ≡ Some self ⌝ }
@@ -82,6 +83,7 @@ impl Layer {
         }
     }
 
+    // The layer that a number names, if it names one.
     pub fn from_number(number: u8) -> Option<Layer>
         ensures { λ r. ⌜ r ≡ named layer-number layers number ⌝ }
     {
@@ -128,6 +130,7 @@ impl Reason {
         }
     }
 
+    // The reason that a number names, if it names one.
     pub fn from_number(number: u8) -> Option<Reason>
         ensures { λ r. ⌜ r ≡ named reason-number reasons number ⌝ }
     {
@@ -159,6 +162,7 @@ impl Reason {
         }
     }
 
+    // The layer that checks for the reason.
     pub fn layer(self) -> Layer
         ensures { λ r. ⌜ r ≡ layer self ⌝ }
     {

@@ -7,16 +7,13 @@
 use mathlib.Core.List.{List, [], _∷_}
 use Prim.Native.Nat.{ℕ, zero, suc, _+_, _-_, _*_}
 use lib.ListN.{getD, take}
+use Rattle.std.specs.shelf.Lists.{sum}
 use Rattle.orders.specs.declared.entry.Entry.{Entry}
 use Rattle.orders.specs.declared.entry.Cancel.{Cancel}
 
 abbrev pub number : List ℕ → ℕ → ℕ → ℕ
 number l p zero = 0
 number l p (suc n) = number l p n * 256 + getD l (p + n) 0
-
-abbrev pub sum : List ℕ → ℕ
-sum [] = 0
-sum (x ∷ xs) = x + sum xs
 
 abbrev pub offset : List ℕ → ℕ → ℕ
 offset widths k = sum (take (k - 1) widths)

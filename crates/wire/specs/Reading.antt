@@ -1,7 +1,7 @@
 -- What the reader means and what a read of it answers. Assumes nothing.
 --     bytes r, position r      the caller's bytes, and how many of them have been read
---     read l p                 the item at position p of l, the end, or a refusal whose place is p
 --     placed p a               an answer whose refusal, if it is one, has the place p
+--     read l p                 the item at position p of l, the end, or a refusal whose place is p
 --     position-after l p       the position after that read
 use mathlib.Core.List.{List}
 use Prim.Native.Nat.{ℕ, _+_}

@@ -19,7 +19,8 @@ use Rattle.std.specs.declared.result.Result.{Result}
 use Rattle.std.specs.declared.result.Result.the-variants.{Ok, Err}
 use Rattle.orders.specs.declared.refusal.Reason.{Reason}
 use Rattle.orders.specs.declared.refusal.Reason.the-variants.{UnknownMark, CutShort}
-use Rattle.wire.specs.Fields.{sum, entry-widths, cancel-widths}
+use Rattle.std.specs.shelf.Lists.{sum}
+use Rattle.wire.specs.Fields.{entry-widths, cancel-widths}
 use Rattle.wire.specs.declared.record.Record.{Record}
 use Rattle.wire.specs.declared.record.Record.the-variants.{Enter, Cancel, Turn}
 

@@ -1,4 +1,3 @@
-use mathlib.Core.Bool.{false}
 use mathlib.Core.List.{List}
 use mathlib.Core.Path.{_≡_}
 use Prim.Native.Nat.{ℕ}
@@ -6,13 +5,10 @@ use native.Mathlib.Omega.{arith}
 use lib.Chars.{codes}
 use Rattle.std.proofs.shelf.Equals.{sameBytes-decides}
 use Rattle.std.proofs.shelf.Ways.{tells}
-use Rattle.std.specs.declared.option.Option.{Option}
-use Rattle.std.specs.declared.option.Option.the-variants.{None}
-use Rattle.desk.specs.Arguments.{asked-by}
-use Rattle.desk.specs.declared.arguments.Request.{Request}
+use Rattle.desk.specs.Arguments.{unknown, asked-by}
 use Rattle.desk.proofs.arguments.parse_word.Needs as need
 
-neither : (w : List ℕ) → (w ≡ codes "-" → ⊥) → (w ≡ codes "--help" → ⊥) → None ≡ asked-by w
+neither : (w : List ℕ) → (w ≡ codes "-" → ⊥) → (w ≡ codes "--help" → ⊥) → unknown w ≡ asked-by w
 neither w a b =
     let p = sameBytes-decides w (codes "-") in
     let q = sameBytes-decides w (codes "--help") in

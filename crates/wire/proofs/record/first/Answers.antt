@@ -21,9 +21,11 @@ found i = Ok (Some i)
 behind : (n : ℕ) (l : List ℕ) → 1 ≤ n → n ≤ length (take (length l - 2) (drop 2 l)) → n + 2 ≤ length l
 behind n l some h = omega (arith, ap length (rest-is l 2), length-drop 2 l)
 
+-- the mark EN, in codes
 enters : (l : List ℕ) → 26 ≤ length l → getD l 0 0 ≡ 69 → getD l 1 0 ≡ 78 → found (entry (take 24 (drop 2 l))) ≡ front l
 enters l long e n = grind (arith, tells)
 
+-- the mark CX, in codes
 cancels : (l : List ℕ) → 14 ≤ length l → getD l 0 0 ≡ 67 → getD l 1 0 ≡ 88 → found (cancel (take 12 (drop 2 l))) ≡ front l
 cancels l long c x = grind (arith, tells)
 
