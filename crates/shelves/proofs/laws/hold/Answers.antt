@@ -1,0 +1,10 @@
+use Rattle.shelves.proofs.Keeping.{keeps-distinct, keeps-rank, members, totals}
+use Rattle.shelves.proofs.laws.hold.Needs as need
+
+pub returns : need.returns
+returns g c = record {
+  rank = keeps-rank (g .R·Rank·met .ranking);
+  distinct = keeps-distinct (g .R·Rank .before);
+  members = members (g .R·Rank .before);
+  totals = totals (g .R·Rank .before);
+}

@@ -1,0 +1,4 @@
+pub mod Laws
+pub mod Lists
+pub mod Puts
+pub mod Ranks
