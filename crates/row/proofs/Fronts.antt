@@ -104,11 +104,10 @@ module _ (t u : Slots) (fits : t .used ≤ room t) (apart : distinct (front t) �
       let q = ap (λ k. take k (u .at .now)) f ∙ ap (take n) e ∙ same in
       record { room-same = l; fits = omega arith; orders = q; apart = ap distinct q ∙ d }
 
-  pub after-insert : (o : Order) → p ≤ t .used → length (front t) < room t → has (o .serial) (front t) ≡ false →
+  pub after-insert : (o : Order) → (p ≤ t .used) × (t .used < room t) × (has (o .serial) (front t) ≡ false) →
     u .at .now ≡ opened t p o → u .used ≡ t .used + 1 → Left t u (inserted (front t) p o)
-  after-insert o h l lacks e f =
-      let l′ : t .used < room t = omega (arith, length-front t fits) in
-      left _ _ _ e f (length-opened t p o h l′) (omega arith) (front-opened t p o h l′) (distinct-inserted (front t) p o lacks apart)
+  after-insert o free e f =
+      left _ _ _ e f (length-opened t p o (free .0) (free .1)) (omega arith) (front-opened t p o (free .0) (free .1)) (distinct-inserted (front t) p o (free .2) apart)
 
   pub after-remove : (o : Order) → nth (front t) p ≡ Some o → u .at .now ≡ closed t p → u .used ≡ t .used - 1 → Left t u (removed (front t) p)
   after-remove o there e f =
