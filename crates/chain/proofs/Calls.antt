@@ -2,8 +2,9 @@
 use mathlib.Core.Path.{_≡_, _∙_, ap, refl, sym}
 use mathlib.Core.List.{List}
 use mathlib.Core.Logic.{⊎-elim}
-use Prim.Native.Nat.{ℕ, _+_, _-_, _<_, _≤_}
+use Prim.Native.Nat.{ℕ, _+_, _-_, _<_, _≤_, suc}
 use native.Mathlib.Omega.{arith}
+use native.Mathlib.Numerals.{add-one}
 use lib.ListN.{length, getD, set, length-set}
 use Rattle.std.specs.Finite.{nth}
 use Rattle.std.specs.Holes.{inserted, removed}
@@ -18,8 +19,8 @@ use Rattle.chain.specs.declared.link.Link.{Link}
 use Rattle.chain.specs.declared.links.Links.{Links}
 use Rattle.chain.specs.Chains.{Left, Sound, held, linked-behind, linked-first, renewed-slot, room, shown, slot, unlinked-behind, unlinked-first}
 use Rattle.chain.specs.Trails.{Inside, Parted, along, linked, next, order-in, trail}
-use Rattle.chain.proofs.Moves.{free-inside, in-first, in-later, inside-used, out-first, out-later, renewed-at}
-use Rattle.chain.proofs.Trails.{along-at, follows, length-along, starts}
+use Rattle.chain.proofs.Moves.{free-inside, in-first, in-later, inside-used, once-used, out-first, out-later, renewed-at}
+use Rattle.chain.proofs.Trails.{along-at, follows, length-along, length-trail, once-apart, starts}
 
 module _ (t : Links) where
   pub length-held : length (held t) ≡ t .used
@@ -32,9 +33,9 @@ module _ (t : Links) where
   shown-held p =
       let l = length-held in
       ⊎-elim
-        (λ (h : p < t .used). cond-true _ _ _ (lt-ltb p (t .used) h) ∙ ap Some (sym (along-at (t .at .now) (t .used) (t .head) p h)) ∙ sym (nth-getD (held t) p nobody (omega arith)))
-        (λ (h : t .used ≤ p). cond-false _ _ _ (le-ltb p (t .used) h) ∙ sym (nth-past (held t) p (omega arith)))
-        (cases-lt p (t .used))
+      (λ (h : p < t .used). cond-true _ _ _ (lt-ltb p (t .used) h) ∙ ap Some (sym (along-at (t .at .now) (t .used) (t .head) p h)) ∙ sym (nth-getD (held t) p nobody (omega arith)))
+      (λ (h : t .used ≤ p). cond-false _ _ _ (le-ltb p (t .used) h) ∙ sym (nth-past (held t) p (omega arith)))
+      (cases-lt p (t .used))
 
 module _ (t : Links) (sound : Sound t) where
   pub inside : Inside (t .at .now) (t .used) (t .head)
@@ -51,9 +52,16 @@ module _ (t : Links) (sound : Sound t) where
       let there : next (t .at .now) i ≡ slot t (p + 1) = ap (next (t .at .now)) e ∙ sym (follows (t .at .now) (t .used) (t .head) p h) in
       omega (arith, inside (p + 1) h, there)
 
+  pub next-other : (p i : ℕ) → p + 1 < t .used → i ≡ slot t p → i ≡ next (t .at .now) i → ⊥
+  next-other p i h e same =
+      let s = t .at .now in
+      let long = length-trail s (t .used) (t .head) in
+      let there : i ≡ slot t (suc p) = same ∙ ap (next s) e ∙ sym (follows s (t .used) (t .head) p h) ∙ ap (slot t) (add-one p) in
+      once-apart (trail s (t .used) (t .head)) p (once-used s (t .used) (t .head) (t .free) sound) (omega arith) (sym e ∙ there)
+
 module _ (t u : Links) where
   left : (s : List Link) (n h f : ℕ) (xs : List Order) → u .at .now ≡ s → u .used ≡ n → u .head ≡ h → u .free ≡ f →
-    length s ≡ room t → n ≤ room t → Parted s n h f × (along s n h ≡ xs) → Left t u xs
+      length s ≡ room t → n ≤ room t → Parted s n h f × (along s n h ≡ xs) → Left t u xs
   left s n h f xs a b c d long few now =
       let l : room u ≡ room t = ap length a ∙ long in
       record {
@@ -65,29 +73,29 @@ module _ (t u : Links) where
 
   module _ (sound : Sound t) where
     pub after-link-first : (o : Order) → t .used < room t →
-      u .at .now ≡ linked-first t o → u .used ≡ t .used + 1 → u .head ≡ t .free → u .free ≡ next (t .at .now) (t .free) → Left t u (inserted (held t) 0 o)
+        u .at .now ≡ linked-first t o → u .used ≡ t .used + 1 → u .head ≡ t .free → u .free ≡ next (t .at .now) (t .free) → Left t u (inserted (held t) 0 o)
     after-link-first o free a b c d =
         left _ _ _ _ _ a b c d (length-set (t .at .now) (t .free) _) (omega arith) (in-first (t .at .now) (t .used) (t .head) (t .free) sound free o)
 
     pub after-link-behind : (o : Order) (p prev : ℕ) → t .used < room t → p + 1 ≤ t .used → prev ≡ slot t p →
-      u .at .now ≡ linked-behind t prev o → u .used ≡ t .used + 1 → u .head ≡ t .head → u .free ≡ next (t .at .now) (t .free) → Left t u (inserted (held t) (p + 1) o)
+        u .at .now ≡ linked-behind t prev o → u .used ≡ t .used + 1 → u .head ≡ t .head → u .free ≡ next (t .at .now) (t .free) → Left t u (inserted (held t) (p + 1) o)
     after-link-behind o p prev free l is a b c d =
         left _ _ _ _ _ a b c d (length-set _ _ _ ∙ length-set (t .at .now) (t .free) _) (omega arith)
-          (in-later (t .at .now) (t .used) (t .head) (t .free) sound free o p prev (omega arith) is)
+        (in-later (t .at .now) (t .used) (t .head) (t .free) sound free o p prev (omega arith) is)
 
     pub after-unlink-first : (p : ℕ) → p ≡ 0 → t .used ≤ room t → p < t .used →
-      u .at .now ≡ unlinked-first t → u .used ≡ t .used - 1 → u .head ≡ next (t .at .now) (t .head) → u .free ≡ t .head → Left t u (removed (held t) p)
+        u .at .now ≡ unlinked-first t → u .used ≡ t .used - 1 → u .head ≡ next (t .at .now) (t .head) → u .free ≡ t .head → Left t u (removed (held t) p)
     after-unlink-first p e fits l a b c d =
         let r = out-first (t .at .now) (t .used) (t .head) (t .free) sound fits (omega arith) in
         left _ _ _ _ _ a b c d (length-set (t .at .now) (t .head) _) (omega arith) (r .0, r .1 ∙ ap (λ z. removed (held t) z) (sym e))
 
     pub after-unlink-behind : (p prev : ℕ) → t .used ≤ room t → p + 1 < t .used → prev ≡ slot t p →
-      u .at .now ≡ unlinked-behind t prev → u .used ≡ t .used - 1 → u .head ≡ t .head → u .free ≡ next (t .at .now) prev → Left t u (removed (held t) (p + 1))
+        u .at .now ≡ unlinked-behind t prev → u .used ≡ t .used - 1 → u .head ≡ t .head → u .free ≡ next (t .at .now) prev → Left t u (removed (held t) (p + 1))
     after-unlink-behind p prev fits l is a b c d =
         left _ _ _ _ _ a b c d (length-set _ _ _ ∙ length-set (t .at .now) prev _) (omega arith) (out-later (t .at .now) (t .used) (t .head) (t .free) sound fits p prev l is)
 
     pub after-renew : (p i b : ℕ) (k : Kind) (m : ℕ) → t .used ≤ room t → p < t .used → i ≡ slot t p →
-      u .at .now ≡ renewed-slot t i b k m → u .used ≡ t .used → u .head ≡ t .head → u .free ≡ t .free → Left t u (rewritten (held t) p b k m)
+        u .at .now ≡ renewed-slot t i b k m → u .used ≡ t .used → u .head ≡ t .head → u .free ≡ t .free → Left t u (rewritten (held t) p b k m)
     after-renew p i b k m fits l is e f c d =
         let s = t .at .now in
         let there = along-at s (t .used) (t .head) p l ∙ ap (order-in s) (sym is) in

@@ -62,7 +62,7 @@ module _ (s : List Link) (n i : ℕ) (inside : Inside s n i) where
   pub inside-next : 0 < n → Inside s (n - 1) (next s i)
   inside-next h p l =
       let e : getD (trail s n i) (p + 1) 0 ≡ getD (trail s (n - 1) (next s i)) p 0 =
-          ap (λ t. getD t (p + 1) 0) (trail-first s n i h) ∙ ap (λ k. getD (i ∷ trail s (n - 1) (next s i)) k 0) (add-one p) in
+      ap (λ t. getD t (p + 1) 0) (trail-first s n i h) ∙ ap (λ k. getD (i ∷ trail s (n - 1) (next s i)) k 0) (add-one p) in
       omega (arith, inside (p + 1) (omega arith), e)
 
 -- what stands on a list stands there at least once
@@ -87,6 +87,11 @@ once-later x xs p o l e =
     let q = once-first x xs o in
     let s : times x xs ≡ times (getD xs p 0) xs = ap (λ k. times k xs) e in
     omega arith
+
+pub once-apart : (xs : List ℕ) (p : ℕ) → Once xs → suc p < length xs → getD xs p 0 ≡ getD xs (suc p) 0 → ⊥
+once-apart [] p o l e = absurd (omega arith)
+once-apart (x ∷ xs) zero o l e = once-later x xs 0 o (omega arith) e
+once-apart (x ∷ xs) (suc p) o l e = once-apart xs p (once-rest x xs o) (omega arith) e
 
 -- a slot that a trail does not meet may be written
 pub unmet-parts : (j x : ℕ) (xs : List ℕ) → times j (x ∷ xs) ≡ 0 → (x ≡ j → ⊥) × (times j xs ≡ 0)
@@ -120,7 +125,7 @@ trail-renewed s (suc n) i j v e =
     ap (λ k. i ∷ trail (set s j v) n k) (next-set s j v i e) ∙ ap (λ t. i ∷ t) (trail-renewed s n (next s i) j v e)
 
 pub along-renewed : (s : List Link) (n i p : ℕ) (v : Link) → p < n → Once (trail s n i) → getD (trail s n i) p 0 < length s →
-  v .next ≡ next s (getD (trail s n i) p 0) → along (set s (getD (trail s n i) p 0) v) n i ≡ set (along s n i) p (v .order)
+    v .next ≡ next s (getD (trail s n i) p 0) → along (set s (getD (trail s n i) p 0) v) n i ≡ set (along s n i) p (v .order)
 along-renewed s zero i p v l o b e = absurd (omega arith)
 along-renewed s (suc n) i zero v l o b e =
     let g = getD-set-same s i v nowhere b in
@@ -148,34 +153,37 @@ module _ (s : List Link) (f : ℕ) (o : Order) (within : f < length s) where
   at-other prev i ne nf = getD-set-other (set s f (linked o (next s prev))) prev i _ nowhere ne ∙ getD-set-other s f i _ nowhere nf
 
   pub in-unmet : (prev n i : ℕ) → times f (trail s n i) ≡ 0 → times prev (trail s n i) ≡ 0 →
-    (trail (in-behind prev) n i ≡ trail s n i) × (along (in-behind prev) n i ≡ along s n i)
+      (trail (in-behind prev) n i ≡ trail s n i) × (along (in-behind prev) n i ≡ along s n i)
   in-unmet prev n i a b =
       let one = trail-set s n i f (linked o (next s prev)) a in
-      let q : times prev (trail (set s f (linked o (next s prev))) n i) ≡ 0 = rw one b in
-      (trail-set (set s f (linked o (next s prev))) n i prev _ q ∙ one,
-       along-set (set s f (linked o (next s prev))) n i prev _ q ∙ along-set s n i f _ a)
+      let q : times prev (trail (set s f (linked o (next s prev))) n i) ≡ 0 = rw one b in (
+        trail-set (set s f (linked o (next s prev))) n i prev _ q ∙ one,
+        along-set (set s f (linked o (next s prev))) n i prev _ q ∙ along-set s n i f _ a,
+      )
 
   pub link-in : (n i p : ℕ) → p < n → Once (trail s n i) → times f (trail s n i) ≡ 0 → getD (trail s n i) p 0 < length s →
-    (trail (in-behind (getD (trail s n i) p 0)) (suc n) i ≡ inserted (trail s n i) (suc p) f)
-    × (along (in-behind (getD (trail s n i) p 0)) (suc n) i ≡ inserted (along s n i) (suc p) o)
+      (trail (in-behind (getD (trail s n i) p 0)) (suc n) i ≡ inserted (trail s n i) (suc p) f)
+      × (along (in-behind (getD (trail s n i) p 0)) (suc n) i ≡ inserted (along s n i) (suc p) o)
   link-in zero i p l w a b = absurd (omega arith)
   link-in (suc n) i zero l w a b =
       let u = unmet-parts f i (trail s n (next s i)) a in
       let r = at-prev i b in
       let q = at-new i (λ e. u .0 (sym e)) in
       let v = in-unmet i n (next s i) (u .1) (once-first i (trail s n (next s i)) w) in
-      let s′ = in-behind i in
-      (ap (λ (k : Link). i ∷ k .next ∷ trail s′ n (next s′ (k .next))) r ∙ ap (λ (k : Link). i ∷ f ∷ trail s′ n (k .next)) q ∙ ap (λ t. i ∷ f ∷ t) (v .0),
-       ap (λ (k : Link). k .order ∷ order-in s′ (k .next) ∷ along s′ n (next s′ (k .next))) r
-       ∙ ap (λ (k : Link). order-in s i ∷ k .order ∷ along s′ n (k .next)) q ∙ ap (λ t. order-in s i ∷ o ∷ t) (v .1))
+      let s′ = in-behind i in (
+        ap (λ (k : Link). i ∷ k .next ∷ trail s′ n (next s′ (k .next))) r ∙ ap (λ (k : Link). i ∷ f ∷ trail s′ n (k .next)) q ∙ ap (λ t. i ∷ f ∷ t) (v .0),
+        ap (λ (k : Link). k .order ∷ order-in s′ (k .next) ∷ along s′ n (next s′ (k .next))) r
+            ∙ ap (λ (k : Link). order-in s i ∷ k .order ∷ along s′ n (k .next)) q ∙ ap (λ t. order-in s i ∷ o ∷ t) (v .1),
+      )
   link-in (suc n) i (suc p) l w a b =
       let t = trail s n (next s i) in
       let u = unmet-parts f i t a in
       let r = at-other (getD t p 0) i (once-later i t p w (omega (arith, length-trail s n (next s i)))) (u .0) in
       let v = link-in n (next s i) p (omega arith) (once-rest i t w) (u .1) b in
-      let s′ = in-behind (getD t p 0) in
-      (ap (λ (k : Link). i ∷ trail s′ (suc n) (k .next)) r ∙ ap (λ q. i ∷ q) (v .0),
-       ap (λ (k : Link). k .order ∷ along s′ (suc n) (k .next)) r ∙ ap (λ q. order-in s i ∷ q) (v .1))
+      let s′ = in-behind (getD t p 0) in (
+        ap (λ (k : Link). i ∷ trail s′ (suc n) (k .next)) r ∙ ap (λ q. i ∷ q) (v .0),
+        ap (λ (k : Link). k .order ∷ along s′ (suc n) (k .next)) r ∙ ap (λ q. order-in s i ∷ q) (v .1),
+      )
 
 -- the slot behind the place p linked out, and linked to f
 module _ (s : List Link) (f : ℕ) where
@@ -192,7 +200,7 @@ module _ (s : List Link) (f : ℕ) where
   past-out prev out i np no′ = getD-set-other (set s prev _) out i _ nowhere no′ ∙ getD-set-other s prev i _ nowhere np
 
   pub out-unmet : (prev out n i : ℕ) → times prev (trail s n i) ≡ 0 → times out (trail s n i) ≡ 0 →
-    (trail (out-behind prev out) n i ≡ trail s n i) × (along (out-behind prev out) n i ≡ along s n i)
+      (trail (out-behind prev out) n i ≡ trail s n i) × (along (out-behind prev out) n i ≡ along s n i)
   out-unmet prev out n i a b =
       let v = linked (order-in s prev) (next s out) in
       let one = trail-set s n i prev v a in
@@ -200,8 +208,8 @@ module _ (s : List Link) (f : ℕ) where
       (trail-set (set s prev v) n i out _ q ∙ one, along-set (set s prev v) n i out _ q ∙ along-set s n i prev v a)
 
   pub link-out : (n i p : ℕ) → p < n → Once (trail s (suc n) i) → getD (trail s (suc n) i) p 0 < length s → getD (trail s (suc n) i) (suc p) 0 < length s →
-    (trail (out-behind (getD (trail s (suc n) i) p 0) (getD (trail s (suc n) i) (suc p) 0)) n i ≡ removed (trail s (suc n) i) (suc p))
-    × (along (out-behind (getD (trail s (suc n) i) p 0) (getD (trail s (suc n) i) (suc p) 0)) n i ≡ removed (along s (suc n) i) (suc p))
+      (trail (out-behind (getD (trail s (suc n) i) p 0) (getD (trail s (suc n) i) (suc p) 0)) n i ≡ removed (trail s (suc n) i) (suc p))
+      × (along (out-behind (getD (trail s (suc n) i) p 0) (getD (trail s (suc n) i) (suc p) 0)) n i ≡ removed (along s (suc n) i) (suc p))
   link-out zero i p l w a b = absurd (omega arith)
   link-out (suc n) i zero l w a b =
       let out = next s i in
@@ -210,14 +218,16 @@ module _ (s : List Link) (f : ℕ) where
       let u = unmet-parts i out t (once-first i (out ∷ t) w) in
       let r = before-out i out ne a in
       let v = out-unmet i out n (next s out) (u .1) (once-first out t (once-rest i (out ∷ t) w)) in
-      let s′ = out-behind i out in
-      (ap (λ (k : Link). i ∷ trail s′ n (k .next)) r ∙ ap (λ q. i ∷ q) (v .0),
-       ap (λ (k : Link). k .order ∷ along s′ n (k .next)) r ∙ ap (λ q. order-in s i ∷ q) (v .1))
+      let s′ = out-behind i out in (
+        ap (λ (k : Link). i ∷ trail s′ n (k .next)) r ∙ ap (λ q. i ∷ q) (v .0),
+        ap (λ (k : Link). k .order ∷ along s′ n (k .next)) r ∙ ap (λ q. order-in s i ∷ q) (v .1),
+      )
   link-out (suc n) i (suc p) l w a b =
       let t = trail s (suc n) (next s i) in
       let long = length-trail s (suc n) (next s i) in
       let r = past-out (getD t p 0) (getD t (suc p) 0) i (once-later i t p w (omega arith)) (once-later i t (suc p) w (omega arith)) in
       let v = link-out n (next s i) p (omega arith) (once-rest i t w) a b in
-      let s′ = out-behind (getD t p 0) (getD t (suc p) 0) in
-      (ap (λ (k : Link). i ∷ trail s′ n (k .next)) r ∙ ap (λ q. i ∷ q) (v .0),
-       ap (λ (k : Link). k .order ∷ along s′ n (k .next)) r ∙ ap (λ q. order-in s i ∷ q) (v .1))
+      let s′ = out-behind (getD t p 0) (getD t (suc p) 0) in (
+        ap (λ (k : Link). i ∷ trail s′ n (k .next)) r ∙ ap (λ q. i ∷ q) (v .0),
+        ap (λ (k : Link). k .order ∷ along s′ n (k .next)) r ∙ ap (λ q. order-in s i ∷ q) (v .1),
+      )

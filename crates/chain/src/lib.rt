@@ -38,7 +38,15 @@ impl<'a, R: Rank> Chain<'a, R> {
         ensures room { λ r. ⌜ room (r .links) ≡ length (now (at .entry)) ⌝ }
     {
         link_up(at);
-        Chain { links: Links { at, used: 0, head: 0, free: 0 }, rank: PhantomData }
+        Chain {
+            links: Links {
+                at,
+                used: 0,
+                head: 0,
+                free: 0,
+            },
+            rank: PhantomData,
+        }
     }
 }
 
@@ -52,7 +60,7 @@ pub impl<'a, R: Rank> Shelf<R> for Chain<'a, R> as ChainShelf {
     ghost within = { λ s. held-within (s .links) (s .fits) };
 
     fn count(&self) -> usize {
-        self.links.used
+        self.links.count()
     }
 
     fn places(&self) -> usize {

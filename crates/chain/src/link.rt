@@ -13,7 +13,7 @@ pub struct Link {
 }
 
 // Links each slot to the one that lies behind it.
-pub fn link_up(at: &mut [Link])
+pub(crate) fn link_up(at: &mut [Link])
     ensures { λ _. ⌜ ((k : ℕ) → k < length (now (at .exit)) → next (now (at .exit)) k ≡ k + 1) ⌝ }
 {
     for i in 0..at.len() {

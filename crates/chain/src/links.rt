@@ -1,8 +1,9 @@
 // The slots of a chain, with where its orders and its free slots begin.
 ghost use mathlib.Core.Path.{_≡_};
 ghost use Prim.Native.Nat.{_+_, _-_, _<_, _≤_};
+ghost use lib.ListN.{set};
 ghost use Rattle.chain.specs.Chains.{Left, Sound, held, inside, linked-behind, linked-first, renewed-slot, room, shown, slot, unlinked-behind, unlinked-first};
-ghost use Rattle.chain.specs.Trails.{next};
+ghost use Rattle.chain.specs.Trails.{linked, next, order-in};
 ghost use Rattle.shelves.specs.Lists.{place-in, place-of, rewritten};
 ghost use Rattle.std.specs.Holes.{inserted, removed};
 use crate::link::Link;
@@ -25,11 +26,24 @@ pub struct Links<'a> {
 }
 
 impl Links<'_> {
+    pub fn count(&self) -> usize
+        ensures { λ r. ⌜ r ≡ now (self .entry) .used ⌝ }
+    {
+        self.used
+    }
+
     pub fn find(&self, serial: u64) -> Option<usize>
         requires { ⌜ inside (now self) ⌝ }
         ensures { λ r. ⌜ r ≡ place-of serial (held (now (self .entry))) ⌝ }
     {
-        walk::find(&mut Trail { links: self.at, left: self.used, at: self.head }, serial)
+        walk::find(
+            &mut Trail {
+                links: self.at,
+                left: self.used,
+                at: self.head,
+            },
+            serial,
+        )
     }
 
     // The place of a new order.
@@ -37,7 +51,14 @@ impl Links<'_> {
         requires { ⌜ inside (now self) ⌝ }
         ensures { λ r. ⌜ r ≡ place-in (R·Rank .before) (now (new .entry)) (held (now (self .entry))) ⌝ }
     {
-        walk::place::<R, Trail>(&mut Trail { links: self.at, left: self.used, at: self.head }, new)
+        walk::place::<R, Trail>(
+            &mut Trail {
+                links: self.at,
+                left: self.used,
+                at: self.head,
+            },
+            new,
+        )
     }
 
     // The slot of the order at `place`.
@@ -58,10 +79,29 @@ impl Links<'_> {
         requires { ⌜ inside (now self) ⌝ }
         ensures { λ r. ⌜ r ≡ shown (now (self .entry)) place ⌝ }
     {
-        if place < self.used { Some(self.at[self.slot(place)].order) } else { None }
+        if place < self.used {
+            Some(self.at[self.slot(place)].order)
+        } else {
+            None
+        }
     }
 
-    // Takes the first free slot for `new`, and links it in before the first order.
+    // Takes the first free slot.
+    fn take_free(&mut self) -> usize
+        requires { ⌜ (now self .used < room (now self)) × (now self .free < room (now self)) ⌝ }
+        ensures slot { λ r. ⌜ r ≡ now (self .entry) .free ⌝ }
+        ensures slots { λ _. ⌜ now (now (self .exit) .at) ≡ now (now (self .entry) .at) ⌝ }
+        ensures used { λ _. ⌜ now (self .exit) .used ≡ now (self .entry) .used + 1 ⌝ }
+        ensures head { λ _. ⌜ now (self .exit) .head ≡ now (self .entry) .head ⌝ }
+        ensures free { λ _. ⌜ now (self .exit) .free ≡ next (now (now (self .entry) .at)) (now (self .entry) .free) ⌝ }
+    {
+        let slot = self.free;
+        self.free = self.at[slot].next;
+        self.used += 1;
+        slot
+    }
+
+    // Takes a free slot for `new`, and links it in before the first order.
     fn link_first(&mut self, new: Order)
         requires { ⌜ (now self .used < room (now self)) × (now self .free < room (now self)) ⌝ }
         ensures slots { λ _. ⌜ now (now (self .exit) .at) ≡ linked-first (now (self .entry)) new ⌝ }
@@ -69,14 +109,15 @@ impl Links<'_> {
         ensures head { λ _. ⌜ now (self .exit) .head ≡ now (self .entry) .free ⌝ }
         ensures free { λ _. ⌜ now (self .exit) .free ≡ next (now (now (self .entry) .at)) (now (self .entry) .free) ⌝ }
     {
-        let slot = self.free;
-        self.free = self.at[slot].next;
-        self.at[slot] = Link { order: new, next: self.head };
+        let slot = self.take_free();
+        self.at[slot] = Link {
+            order: new,
+            next: self.head,
+        };
         self.head = slot;
-        self.used += 1;
     }
 
-    // Takes the first free slot for `new`, and links it in behind the slot `prev`.
+    // Takes a free slot for `new`, and links it in behind the slot `prev`.
     fn link_behind(&mut self, prev: usize, new: Order)
         requires { ⌜ (now self .used < room (now self)) × (now self .free < room (now self)) × (prev < room (now self)) ⌝ }
         ensures slots { λ _. ⌜ now (now (self .exit) .at) ≡ linked-behind (now (self .entry)) prev new ⌝ }
@@ -84,12 +125,16 @@ impl Links<'_> {
         ensures head { λ _. ⌜ now (self .exit) .head ≡ now (self .entry) .head ⌝ }
         ensures free { λ _. ⌜ now (self .exit) .free ≡ next (now (now (self .entry) .at)) (now (self .entry) .free) ⌝ }
     {
-        let slot = self.free;
+        let slot = self.take_free();
         let before = self.at[prev];
-        self.free = self.at[slot].next;
-        self.at[slot] = Link { order: new, next: before.next };
-        self.at[prev] = Link { order: before.order, next: slot };
-        self.used += 1;
+        self.at[slot] = Link {
+            order: new,
+            next: before.next,
+        };
+        self.at[prev] = Link {
+            order: before.order,
+            next: slot,
+        };
     }
 
     // Puts `new` at `place` among the orders.
@@ -107,6 +152,23 @@ impl Links<'_> {
         self.link_behind(prev, new);
     }
 
+    // Puts a slot before the free ones.
+    fn give_free(&mut self, slot: usize)
+        requires { ⌜ (0 < now self .used) × (slot < room (now self)) ⌝ }
+        ensures slots { λ _. ⌜ now (now (self .exit) .at) ≡ set (now (now (self .entry) .at)) slot (linked (order-in (now (now (self .entry) .at)) slot) (now (self .entry) .free)) ⌝ }
+        ensures used { λ _. ⌜ now (self .exit) .used ≡ now (self .entry) .used - 1 ⌝ }
+        ensures head { λ _. ⌜ now (self .exit) .head ≡ now (self .entry) .head ⌝ }
+        ensures free { λ _. ⌜ now (self .exit) .free ≡ slot ⌝ }
+    {
+        let order = self.at[slot].order;
+        self.at[slot] = Link {
+            order,
+            next: self.free,
+        };
+        self.free = slot;
+        self.used -= 1;
+    }
+
     // Frees the slot of the first order.
     fn unlink_first(&mut self)
         requires { ⌜ (0 < now self .used) × (now self .head < room (now self)) ⌝ }
@@ -116,16 +178,13 @@ impl Links<'_> {
         ensures free { λ _. ⌜ now (self .exit) .free ≡ now (self .entry) .head ⌝ }
     {
         let slot = self.head;
-        let first = self.at[slot];
-        self.at[slot] = Link { order: first.order, next: self.free };
-        self.head = first.next;
-        self.free = slot;
-        self.used -= 1;
+        self.head = self.at[slot].next;
+        self.give_free(slot);
     }
 
     // Frees the slot behind the slot `prev`.
     fn unlink_behind(&mut self, prev: usize)
-        requires { ⌜ (0 < now self .used) × (prev < room (now self)) × (next (now (now self .at)) prev < room (now self)) ⌝ }
+        requires { ⌜ (0 < now self .used) × (prev < room (now self)) × (next (now (now self .at)) prev < room (now self)) × (prev ≡ next (now (now self .at)) prev → ⊥) ⌝ }
         ensures slots { λ _. ⌜ now (now (self .exit) .at) ≡ unlinked-behind (now (self .entry)) prev ⌝ }
         ensures used { λ _. ⌜ now (self .exit) .used ≡ now (self .entry) .used - 1 ⌝ }
         ensures head { λ _. ⌜ now (self .exit) .head ≡ now (self .entry) .head ⌝ }
@@ -133,11 +192,12 @@ impl Links<'_> {
     {
         let before = self.at[prev];
         let slot = before.next;
-        let out = self.at[slot];
-        self.at[prev] = Link { order: before.order, next: out.next };
-        self.at[slot] = Link { order: out.order, next: self.free };
-        self.free = slot;
-        self.used -= 1;
+        let next = self.at[slot].next;
+        self.at[prev] = Link {
+            order: before.order,
+            next,
+        };
+        self.give_free(slot);
     }
 
     // Takes out the order at `place`.
@@ -165,7 +225,15 @@ impl Links<'_> {
     {
         let link = self.at[slot];
         let old = link.order;
-        self.at[slot] = Link { order: Order { balance, kind, minimum, ..old }, next: link.next };
+        self.at[slot] = Link {
+            order: Order {
+                balance,
+                kind,
+                minimum,
+                ..old
+            },
+            next: link.next,
+        };
     }
 
     // Gives the order at `place` a new balance, kind and minimum.

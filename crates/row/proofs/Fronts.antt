@@ -45,9 +45,9 @@ module _ (t : Slots) (fits : t .used ≤ room t) where
 
   pub shown-front : (p : ℕ) → shown t p ≡ nth (front t) p
   shown-front p = ⊎-elim
-    (λ (h : p < t .used). cond-true _ _ _ (lt-ltb p (t .used) h) ∙ sym (front-shown p h))
-    (λ (h : t .used ≤ p). cond-false _ _ _ (le-ltb p (t .used) h) ∙ sym (front-past p h))
-    (cases-lt p (t .used))
+      (λ (h : p < t .used). cond-true _ _ _ (lt-ltb p (t .used) h) ∙ sym (front-shown p h))
+      (λ (h : t .used ≤ p). cond-false _ _ _ (le-ltb p (t .used) h) ∙ sym (front-past p h))
+      (cases-lt p (t .used))
 
 module _ (t : Slots) (p : ℕ) where
   length-opened : (o : Order) → p ≤ t .used → t .used < room t → length (opened t p o) ≡ room t
@@ -64,8 +64,8 @@ module _ (t : Slots) (p : ℕ) where
       let head : length (take (p + 1) s) ≡ p + 1 = simp length-take (omega arith) in
       let fore : set (take (p + 1) s) p o ≡ take p s ++ (o ∷ []) = sym (take-set-lt (p + 1) s p o (omega arith)) ∙ take-more-set s p o (omega arith) in
       let whole : opened t p o ≡ ((take p s ++ (o ∷ [])) ++ mid) ++ rest =
-          set-append-left (take (p + 1) s ++ mid) rest p o (simp length-append (omega arith))
-          ∙ ap (λ z. z ++ rest) (set-append-left (take (p + 1) s) mid p o (omega arith) ∙ ap (λ z. z ++ mid) fore) in
+      set-append-left (take (p + 1) s ++ mid) rest p o (simp length-append (omega arith))
+      ∙ ap (λ z. z ++ rest) (set-append-left (take (p + 1) s) mid p o (omega arith) ∙ ap (λ z. z ++ mid) fore) in
       let long : length ((take p s ++ (o ∷ [])) ++ mid) ≡ n + 1 = simp (length-append, length-take, length-drop) (omega arith) in
       ap (take (n + 1)) whole ∙ take-at ((take p s ++ (o ∷ [])) ++ mid) rest (n + 1) long
       ∙ append-assoc (take p s) (o ∷ []) mid
@@ -105,7 +105,7 @@ module _ (t u : Slots) (fits : t .used ≤ room t) (apart : distinct (front t) �
       record { room-same = l; fits = omega arith; orders = q; apart = ap distinct q ∙ d }
 
   pub after-insert : (o : Order) → (p ≤ t .used) × (t .used < room t) × (has (o .serial) (front t) ≡ false) →
-    u .at .now ≡ opened t p o → u .used ≡ t .used + 1 → Left t u (inserted (front t) p o)
+      u .at .now ≡ opened t p o → u .used ≡ t .used + 1 → Left t u (inserted (front t) p o)
   after-insert o free e f =
       left _ _ _ e f (length-opened t p o (free .0) (free .1)) (omega arith) (front-opened t p o (free .0) (free .1)) (distinct-inserted (front t) p o (free .2) apart)
 
@@ -115,7 +115,7 @@ module _ (t u : Slots) (fits : t .used ≤ room t) (apart : distinct (front t) �
       left _ _ _ e f (length-closed t p h fits) (omega arith) (front-closed t p h fits) (distinct-removed (front t) p apart)
 
   pub after-renew : (o : Order) (b : ℕ) (k : Kind) (m : ℕ) → nth (front t) p ≡ Some o →
-    u .at .now ≡ rewritten (t .at .now) p b k m → u .used ≡ t .used → Left t u (rewritten (front t) p b k m)
+      u .at .now ≡ rewritten (t .at .now) p b k m → u .used ≡ t .used → Left t u (rewritten (front t) p b k m)
   after-renew o b k m there e f =
       let h = used-place t fits p o there in
       left _ _ _ e f (length-set (t .at .now) p _) fits (front-renewed t p b k m h) (distinct-rewritten (front t) p b k m ∙ apart)

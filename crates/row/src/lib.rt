@@ -33,7 +33,10 @@ impl<'a, R: Rank> Row<'a, R> {
         ensures orders { λ r. ⌜ front (r .slots) ≡ [] ⌝ }
         ensures room { λ r. ⌜ room (r .slots) ≡ length (now (at .entry)) ⌝ }
     {
-        Row { slots: Slots { at, used: 0 }, rank: PhantomData }
+        Row {
+            slots: Slots { at, used: 0 },
+            rank: PhantomData,
+        }
     }
 }
 

@@ -23,14 +23,23 @@ impl Slots<'_> {
         requires { ⌜ now self .used ≤ room (now self) ⌝ }
         ensures { λ r. ⌜ r ≡ shown (now (self .entry)) place ⌝ }
     {
-        if place < self.used { Some(self.at[place]) } else { None }
+        if place < self.used {
+            Some(self.at[place])
+        } else {
+            None
+        }
     }
 
     pub fn find(&self, serial: u64) -> Option<usize>
         requires { ⌜ now self .used ≤ room (now self) ⌝ }
         ensures { λ r. ⌜ r ≡ place-of serial (front (now (self .entry))) ⌝ }
     {
-        walk::find(&mut Along { orders: &self.at[0..self.used] }, serial)
+        walk::find(
+            &mut Along {
+                orders: &self.at[0..self.used],
+            },
+            serial,
+        )
     }
 
     // The place of a new order.
@@ -38,7 +47,12 @@ impl Slots<'_> {
         requires { ⌜ now self .used ≤ room (now self) ⌝ }
         ensures { λ r. ⌜ r ≡ place-in (R·Rank .before) (now (new .entry)) (front (now (self .entry))) ⌝ }
     {
-        walk::place::<R, Along>(&mut Along { orders: &self.at[0..self.used] }, new)
+        walk::place::<R, Along>(
+            &mut Along {
+                orders: &self.at[0..self.used],
+            },
+            new,
+        )
     }
 
     // Moves what stands from `place` on one slot up, and writes `new` there.
@@ -71,6 +85,11 @@ impl Slots<'_> {
         ensures used { λ _. ⌜ now (self .exit) .used ≡ now (self .entry) .used ⌝ }
     {
         let old = self.at[place];
-        self.at[place] = Order { balance, kind, minimum, ..old };
+        self.at[place] = Order {
+            balance,
+            kind,
+            minimum,
+            ..old
+        };
     }
 }

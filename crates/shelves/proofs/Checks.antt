@@ -25,14 +25,13 @@ open-check false false u e = (refl, refl)
 
 -- the check before a put of o on a list of so many orders, by what a search found
 module _ (room count : ℕ) (o : Order) (xs : List Order) (found : Option ℕ) (held : Bool) (r : Result (Unit {0}) PutRefusal)
-  (counted : length xs ≡ count) (searched : found ≡ place-of (o .serial) xs) (tested : held ≡ isSome found) (check : r ≡ put-check (leb room count) held) where
-
+    (counted : length xs ≡ count) (searched : found ≡ place-of (o .serial) xs) (tested : held ≡ isSome found) (check : r ≡ put-check (leb room count) held) where
   pub checked : r ≡ put-answer room (o .serial) xs
   checked = rw (check, tested, searched, has-place (o .serial) xs, counted)
 
   -- past it the place is among the orders, there is room, and the serial is new
   pub passed : (before : Standing → Standing → Bool) (place : ℕ) (u : Unit {0}) → r ≡ Ok u → place ≡ place-in before o xs →
-    (place ≤ count) × (count < room) × (has (o .serial) xs ≡ false)
+      (place ≤ count) × (count < room) × (has (o .serial) xs ≡ false)
   passed before place u e p =
       let c = open-check (leb room (length xs)) (has (o .serial) xs) u (sym checked ∙ e) in
       let l = leb-false room (length xs) (c .0) in

@@ -57,11 +57,11 @@ has-inserted n xs zero o = refl
 has-inserted n [] (suc i) o = refl
 has-inserted n (x ∷ xs) (suc i) o = ap (λ t. eqb (x .serial) n || t) (has-inserted n xs i o) ∙ swap (eqb (x .serial) n) (eqb (o .serial) n) (has n xs)
   where
-  swap : (a b c : Bool) → (a || (b || c)) ≡ (b || (a || c))
-  swap true true c = refl
-  swap true false c = refl
-  swap false true c = refl
-  swap false false c = refl
+    swap : (a b c : Bool) → (a || (b || c)) ≡ (b || (a || c))
+    swap true true c = refl
+    swap true false c = refl
+    swap false true c = refl
+    swap false false c = refl
 
 pub distinct-inserted : (xs : List Order) (i : ℕ) (o : Order) → has (o .serial) xs ≡ false → distinct xs ≡ true → distinct (inserted xs i o) ≡ true
 distinct-inserted xs zero o h d = rw (h, d)
@@ -151,12 +151,12 @@ module _ {before : Standing → Standing → Bool} (r : Ranking before) where
       let ns = or-parts (eqb (y .serial) (o .serial)) (has (o .serial) ys) n in
       step (eqb-false (y .serial) (o .serial) (ns .0)) (hs .0) (hs .1) (ranked-placed o ys (ns .1) (hs .1)) (before (standing y) (standing o)) refl
     where
-    step : (y .serial ≡ o .serial → ⊥) → leads before y ys ≡ true → ranked before ys ≡ true → ranked before (placed before o ys) ≡ true →
-      (t : Bool) → before (standing y) (standing o) ≡ t → ranked before (inserted (y ∷ ys) (cond t (suc (place-in before o ys)) 0) o) ≡ true
-    step apart lead rest more true e = rw (leads-inserted y ys (place-in before o ys) o e lead, more)
-    step apart lead rest more false e =
-        let first = r .total (standing y) (standing o) apart e in
-        rw (first, leads-through o y ys first lead, lead, rest)
+      step : (y .serial ≡ o .serial → ⊥) → leads before y ys ≡ true → ranked before ys ≡ true → ranked before (placed before o ys) ≡ true →
+          (t : Bool) → before (standing y) (standing o) ≡ t → ranked before (inserted (y ∷ ys) (cond t (suc (place-in before o ys)) 0) o) ≡ true
+      step apart lead rest more true e = rw (leads-inserted y ys (place-in before o ys) o e lead, more)
+      step apart lead rest more false e =
+          let first = r .total (standing y) (standing o) apart e in
+          rw (first, leads-through o y ys first lead, lead, rest)
 
   pub keeps-rank : Keeps-rank before
   keeps-rank = record {
@@ -176,14 +176,14 @@ module _ (P : Order → Type 0) where
 pub members : (before : Standing → Standing → Bool) → Members before
 members before = record {
   put = λ o x xs. all-has _ (placed before o xs) x
-    (all-inserted (λ y. (o ≡ y) ⊎ Has xs y) xs (place-in before o xs) o (inl refl) (old o xs));
+      (all-inserted (λ y. (o ≡ y) ⊎ Has xs y) xs (place-in before o xs) o (inl refl) (old o xs));
   take = λ x xs i. all-has _ (removed xs i) x (all-removed (Has xs) xs i (all-has-itself xs));
   write = λ o x xs i b k m e. all-has _ (rewritten xs i b k m) x
-    (all-set (λ y. (renewed o b k m ≡ y) ⊎ Has xs y) xs i _ (inl (ap (λ y. renewed y b k m) (sym (stands xs i o e .1)))) (old (renewed o b k m) xs));
+      (all-set (λ y. (renewed o b k m ≡ y) ⊎ Has xs y) xs i _ (inl (ap (λ y. renewed y b k m) (sym (stands xs i o e .1)))) (old (renewed o b k m) xs));
 }
   where
-  old : (o : Order) (xs : List Order) → All (λ y. (o ≡ y) ⊎ Has xs y) xs
-  old o xs = all-weaker (Has xs) (λ y. (o ≡ y) ⊎ Has xs y) (λ _. inr) xs (all-has-itself xs)
+    old : (o : Order) (xs : List Order) → All (λ y. (o ≡ y) ⊎ Has xs y) xs
+    old o xs = all-weaker (Has xs) (λ y. (o ≡ y) ⊎ Has xs y) (λ _. inr) xs (all-has-itself xs)
 
 module _ (f : Order → ℕ) where
   pub sum-inserted : (xs : List Order) (i : ℕ) (o : Order) → sumBy f (inserted xs i o) ≡ f o + sumBy f xs
@@ -203,7 +203,7 @@ module _ (f : Order → ℕ) where
       omega arith
 
   pub sum-rewritten : (o : Order) (xs : List Order) (i b : ℕ) (k : Kind) (m : ℕ) → nth xs i ≡ Some o →
-    f o + sumBy f (rewritten xs i b k m) ≡ f (renewed o b k m) + sumBy f xs
+      f o + sumBy f (rewritten xs i b k m) ≡ f (renewed o b k m) + sumBy f xs
   sum-rewritten o xs i b k m e =
       let s = stands xs i o e in
       let t = sumBy-set f xs i (renewed (getD xs i nobody) b k m) nobody (s .0) in

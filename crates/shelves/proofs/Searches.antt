@@ -25,16 +25,16 @@ pub place-within : (before : Standing → Standing → Bool) (o : Order) (xs : L
 place-within before o [] = omega arith
 place-within before o (x ∷ xs) = step _ (place-in before o xs) (length xs) (place-within before o xs)
   where
-  step : (b : Bool) (p n : ℕ) → p ≤ n → cond b (suc p) 0 ≤ suc n
-  step true p n h = omega arith
-  step false p n h = omega arith
+    step : (b : Bool) (p n : ℕ) → p ≤ n → cond b (suc p) 0 ≤ suc n
+    step true p n h = omega arith
+    step false p n h = omega arith
 
 -- a serial is there where it has a place
 pub has-place : (n : ℕ) (xs : List Order) → isSome (place-of n xs) ≡ has n xs
 has-place n [] = refl
 has-place n (x ∷ xs) = step (eqb (x .serial) n) (place-of n xs) (has n xs) (has-place n xs)
   where
-  step : (b : Bool) (o : Option ℕ) (h : Bool) → isSome o ≡ h → isSome (cond b (Some 0) (mapped suc o)) ≡ (b || h)
-  step true o h e = refl
-  step false None h e = e
-  step false (Some p) h e = e
+    step : (b : Bool) (o : Option ℕ) (h : Bool) → isSome o ≡ h → isSome (cond b (Some 0) (mapped suc o)) ≡ (b || h)
+    step true o h e = refl
+    step false None h e = e
+    step false (Some p) h e = e

@@ -9,5 +9,4 @@ pub fn hold<R: Rank>()
     ensures distinct { λ _. ⌜ Keeps-distinct (R·Rank .before) ⌝ }
     ensures members { λ _. ⌜ Members (R·Rank .before) ⌝ }
     ensures totals { λ _. ⌜ Totals (R·Rank .before) ⌝ }
-{
-}
+{}

@@ -1,6 +1,6 @@
-use mathlib.Core.Path.{sym}
-use Rattle.chain.proofs.Trails.{length-along}
+use mathlib.Core.Path.{sym, _∙_}
+use Rattle.chain.proofs.Calls.{length-held}
 use Rattle.chain.proofs.ChainShelf.count.Needs as need
 
 pub returns : need.returns
-returns g c = let t = c .args .self .now .links in sym (length-along (t .at .now) (t .used) (t .head))
+returns g c = c .count .ensures ∙ sym (length-held (c .args .self .now .links))

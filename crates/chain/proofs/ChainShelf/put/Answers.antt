@@ -16,7 +16,7 @@ returns-in-Break-check-put g c =
     let s = c .args .self .now in
     let p = err-from-errBy (c .from-residual .result) (c .from-residual .ensures .1) in
     let same = checked (room (s .links)) (s .links .used) (c .args .new) (held (s .links)) _ _ _
-        (length-held (s .links)) (c .find .ensures) (c .is-some-held .ensures) (c .check-put .ensures) in
+    (length-held (s .links)) (c .find .ensures) (c .is-some-held .ensures) (c .check-put .ensures) in
     rw (p .1, p .2) (record { answer = sym (c .in-Break-check-put .was tt) ∙ same; orders = refl; room = refl })
 
 pub place-place-requires : need.place-place-requires
@@ -26,16 +26,16 @@ pub insert-requires : need.insert-requires
 insert-requires g c κs =
     let s = c .args .self .now in
     let free = passed (room (s .links)) (s .links .used) (c .args .new) (held (s .links)) _ _ _
-        (length-held (s .links)) (c .find .ensures) (c .is-some-held .ensures) (c .check-put .ensures)
-        (g .R·Rank .before) _ _ (c .in-Continue-check-put .was tt) (c .place-place .ensures) in
+    (length-held (s .links)) (c .find .ensures) (c .is-some-held .ensures) (c .check-put .ensures)
+    (g .R·Rank .before) _ _ (c .in-Continue-check-put .was tt) (c .place-place .ensures) in
     record { sound = s .sound; place = free .0; free = free .1 }
 
 pub ghost-self : need.ghost-self
 ghost-self g c =
     let s = c .args .self .now in
     let free = passed (room (s .links)) (s .links .used) (c .args .new) (held (s .links)) _ _ _
-        (length-held (s .links)) (c .find .ensures) (c .is-some-held .ensures) (c .check-put .ensures)
-        (g .R·Rank .before) _ _ (c .in-Continue-check-put .was tt) (c .place-place .ensures) in
+    (length-held (s .links)) (c .find .ensures) (c .is-some-held .ensures) (c .check-put .ensures)
+    (g .R·Rank .before) _ _ (c .in-Continue-check-put .was tt) (c .place-place .ensures) in
     let t = c .insert .ensures in
     (t .fits, (t .sound, (ap distinct (t .orders) ∙ distinct-inserted (held (s .links)) _ (c .args .new) (free .2) (s .apart), tt)))
 
@@ -43,7 +43,7 @@ pub returns : need.returns
 returns g c =
     let s = c .args .self .now in
     let same = checked (room (s .links)) (s .links .used) (c .args .new) (held (s .links)) _ _ _
-        (length-held (s .links)) (c .find .ensures) (c .is-some-held .ensures) (c .check-put .ensures) in
+    (length-held (s .links)) (c .find .ensures) (c .is-some-held .ensures) (c .check-put .ensures) in
     let t = c .insert .ensures in
     record {
       answer = sym (c .in-Continue-check-put .was tt) ∙ same;

@@ -11,23 +11,23 @@ returns-in-Break-check-put g c =
     let s = c .args .self .now in
     let p = err-from-errBy (c .from-residual .result) (c .from-residual .ensures .1) in
     let same = checked (room (s .slots)) (s .slots .used) (c .args .new) (front (s .slots)) _ _ _
-        (length-front (s .slots) (s .fits)) (c .find .ensures) (c .is-some-held .ensures) (c .check-put .ensures) in
+    (length-front (s .slots) (s .fits)) (c .find .ensures) (c .is-some-held .ensures) (c .check-put .ensures) in
     rw (p .1, p .2) (record { answer = sym (c .in-Break-check-put .was tt) ∙ same; orders = refl; room = refl })
 
 pub insert-requires : need.insert-requires
 insert-requires g c κs =
     let s = c .args .self .now in
     let free = passed (room (s .slots)) (s .slots .used) (c .args .new) (front (s .slots)) _ _ _
-        (length-front (s .slots) (s .fits)) (c .find .ensures) (c .is-some-held .ensures) (c .check-put .ensures)
-        (g .R·Rank .before) _ _ (c .in-Continue-check-put .was tt) (c .place-place .ensures) in
+    (length-front (s .slots) (s .fits)) (c .find .ensures) (c .is-some-held .ensures) (c .check-put .ensures)
+    (g .R·Rank .before) _ _ (c .in-Continue-check-put .was tt) (c .place-place .ensures) in
     (free .0, free .1)
 
 pub ghost-self : need.ghost-self
 ghost-self g c =
     let s = c .args .self .now in
     let free = passed (room (s .slots)) (s .slots .used) (c .args .new) (front (s .slots)) _ _ _
-        (length-front (s .slots) (s .fits)) (c .find .ensures) (c .is-some-held .ensures) (c .check-put .ensures)
-        (g .R·Rank .before) _ _ (c .in-Continue-check-put .was tt) (c .place-place .ensures) in
+    (length-front (s .slots) (s .fits)) (c .find .ensures) (c .is-some-held .ensures) (c .check-put .ensures)
+    (g .R·Rank .before) _ _ (c .in-Continue-check-put .was tt) (c .place-place .ensures) in
     let t = after-insert (s .slots) (c .insert .last .self) (s .fits) (s .apart) _ (c .args .new) free (c .insert .ensures .slots) (c .insert .ensures .used) in
     (t .fits, (t .apart, tt))
 
@@ -35,10 +35,10 @@ pub returns : need.returns
 returns g c =
     let s = c .args .self .now in
     let same = checked (room (s .slots)) (s .slots .used) (c .args .new) (front (s .slots)) _ _ _
-        (length-front (s .slots) (s .fits)) (c .find .ensures) (c .is-some-held .ensures) (c .check-put .ensures) in
+    (length-front (s .slots) (s .fits)) (c .find .ensures) (c .is-some-held .ensures) (c .check-put .ensures) in
     let free = passed (room (s .slots)) (s .slots .used) (c .args .new) (front (s .slots)) _ _ _
-        (length-front (s .slots) (s .fits)) (c .find .ensures) (c .is-some-held .ensures) (c .check-put .ensures)
-        (g .R·Rank .before) _ _ (c .in-Continue-check-put .was tt) (c .place-place .ensures) in
+    (length-front (s .slots) (s .fits)) (c .find .ensures) (c .is-some-held .ensures) (c .check-put .ensures)
+    (g .R·Rank .before) _ _ (c .in-Continue-check-put .was tt) (c .place-place .ensures) in
     let t = after-insert (s .slots) (c .insert .last .self) (s .fits) (s .apart) _ (c .args .new) free (c .insert .ensures .slots) (c .insert .ensures .used) in
     record {
       answer = sym (c .in-Continue-check-put .was tt) ∙ same;

@@ -23,7 +23,7 @@ pub ghost-self : need.ghost-self
 ghost-self g c =
     let s = c .args .self .now in
     let t = after-remove (s .slots) (c .remove .last .self) (s .fits) (s .apart) (c .args .place) _ (sym (c .show .ensures) ∙ c .in-Continue-taken .was tt)
-        (c .remove .ensures .slots) (c .remove .ensures .used) in
+    (c .remove .ensures .slots) (c .remove .ensures .used) in
     (t .fits, (t .apart, tt))
 
 pub returns : need.returns

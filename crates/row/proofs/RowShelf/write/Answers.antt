@@ -26,7 +26,7 @@ pub ghost-self : need.ghost-self
 ghost-self g c =
     let s = c .args .self .now in
     let t = after-renew (s .slots) (c .renew .last .self) (s .fits) (s .apart) (c .args .place) _ _ _ _ (sym (c .show .ensures) ∙ c .in-Continue-show .was tt)
-        (c .renew .ensures .slots) (c .renew .ensures .used) in
+    (c .renew .ensures .slots) (c .renew .ensures .used) in
     (t .fits, (t .apart, tt))
 
 pub returns : need.returns

@@ -29,5 +29,5 @@ returns c =
     let e = c .link-behind .ensures in
     let up : c .args .place - 1 + 1 ≡ c .args .place = omega (arith, c .if-place-eq0 .left) in
     let q = after-link-behind t (c .link-behind .last .self) (c .pre .sound) (c .args .new) (c .args .place - 1) _ (c .pre .free) (omega (arith, c .pre .place)) (c .slot-prev .ensures .slot)
-        (e .slots) (e .used) (e .head) (e .free) in
+    (e .slots) (e .used) (e .head) (e .free) in
     rw up at q
