@@ -80,7 +80,7 @@ module _ (t u : Links) where
     pub after-link-behind : (o : Order) (p prev : ℕ) → t .used < room t → p + 1 ≤ t .used → prev ≡ slot t p →
         u .at .now ≡ linked-behind t prev o → u .used ≡ t .used + 1 → u .head ≡ t .head → u .free ≡ next (t .at .now) (t .free) → Left t u (inserted (held t) (p + 1) o)
     after-link-behind o p prev free l is a b c d =
-        left _ _ _ _ _ a b c d (length-set _ _ _ ∙ length-set (t .at .now) (t .free) _) (omega arith)
+        left _ _ _ _ _ a b c d (length-set _ _ _ ∙ length-set (t .at .now) prev _) (omega arith)
         (in-later (t .at .now) (t .used) (t .head) (t .free) sound free o p prev (omega arith) is)
 
     pub after-unlink-first : (p : ℕ) → p ≡ 0 → t .used ≤ room t → p < t .used →

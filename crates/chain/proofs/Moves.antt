@@ -99,7 +99,7 @@ module _ (s : List Link) (n h f : ℕ) (parted : Parted s n h f) where
         let at = getD (trail s n h) p 0 in
         let i = link-in s f o free-inside n h p l once-used free-unmet (inside-used p l) in
         let u = in-unmet s f o free-inside at (length s - (n + 1)) (next s f) free-once (used-spare p l) in
-        let len : length (in-behind s f o free-inside at) ≡ length s = length-set _ _ _ ∙ length-set s f _ in
+        let len : length (in-behind s f o free-inside at) ≡ length s = length-set _ _ _ ∙ length-set s at _ in
         rw e (
           parted-in (in-behind s f o free-inside at) h (suc p) len (i .0) (u .0),
           ap (λ m. along (in-behind s f o free-inside at) m h) (add-one n) ∙ i .1 ∙ ap (λ m. inserted (along s n h) m o) (sym (add-one p)),

@@ -141,25 +141,24 @@ along-renewed s (suc n) i (suc p) v l o b e =
 -- a slot f linked in behind the place p
 module _ (s : List Link) (f : ℕ) (o : Order) (within : f < length s) where
   abbrev pub in-behind : ℕ → List Link
-  in-behind prev = set (set s f (linked o (next s prev))) prev (linked (order-in s prev) f)
+  in-behind prev = set (set s prev (linked (order-in s prev) f)) f (linked o (next s prev))
 
-  at-prev : (prev : ℕ) → prev < length s → getD (in-behind prev) prev nowhere ≡ linked (order-in s prev) f
-  at-prev prev l = getD-set-same (set s f (linked o (next s prev))) prev _ nowhere (simp length-set l)
+  at-new : (prev : ℕ) → getD (in-behind prev) f nowhere ≡ linked o (next s prev)
+  at-new prev = getD-set-same (set s prev _) f _ nowhere (simp length-set within)
 
-  at-new : (prev : ℕ) → (f ≡ prev → ⊥) → getD (in-behind prev) f nowhere ≡ linked o (next s prev)
-  at-new prev ne = getD-set-other (set s f (linked o (next s prev))) prev f _ nowhere ne ∙ getD-set-same s f _ nowhere within
+  at-prev : (prev : ℕ) → (prev ≡ f → ⊥) → prev < length s → getD (in-behind prev) prev nowhere ≡ linked (order-in s prev) f
+  at-prev prev ne l = getD-set-other (set s prev _) f prev _ nowhere ne ∙ getD-set-same s prev _ nowhere l
 
   at-other : (prev i : ℕ) → (i ≡ prev → ⊥) → (i ≡ f → ⊥) → getD (in-behind prev) i nowhere ≡ getD s i nowhere
-  at-other prev i ne nf = getD-set-other (set s f (linked o (next s prev))) prev i _ nowhere ne ∙ getD-set-other s f i _ nowhere nf
+  at-other prev i ne nf = getD-set-other (set s prev _) f i _ nowhere nf ∙ getD-set-other s prev i _ nowhere ne
 
   pub in-unmet : (prev n i : ℕ) → times f (trail s n i) ≡ 0 → times prev (trail s n i) ≡ 0 →
       (trail (in-behind prev) n i ≡ trail s n i) × (along (in-behind prev) n i ≡ along s n i)
   in-unmet prev n i a b =
-      let one = trail-set s n i f (linked o (next s prev)) a in
-      let q : times prev (trail (set s f (linked o (next s prev))) n i) ≡ 0 = rw one b in (
-        trail-set (set s f (linked o (next s prev))) n i prev _ q ∙ one,
-        along-set (set s f (linked o (next s prev))) n i prev _ q ∙ along-set s n i f _ a,
-      )
+      let v = linked (order-in s prev) f in
+      let one = trail-set s n i prev v b in
+      let q : times f (trail (set s prev v) n i) ≡ 0 = rw one a in
+      (trail-set (set s prev v) n i f _ q ∙ one, along-set (set s prev v) n i f _ q ∙ along-set s n i prev v b)
 
   pub link-in : (n i p : ℕ) → p < n → Once (trail s n i) → times f (trail s n i) ≡ 0 → getD (trail s n i) p 0 < length s →
       (trail (in-behind (getD (trail s n i) p 0)) (suc n) i ≡ inserted (trail s n i) (suc p) f)
@@ -167,8 +166,8 @@ module _ (s : List Link) (f : ℕ) (o : Order) (within : f < length s) where
   link-in zero i p l w a b = absurd (omega arith)
   link-in (suc n) i zero l w a b =
       let u = unmet-parts f i (trail s n (next s i)) a in
-      let r = at-prev i b in
-      let q = at-new i (λ e. u .0 (sym e)) in
+      let r = at-prev i (u .0) b in
+      let q = at-new i in
       let v = in-unmet i n (next s i) (u .1) (once-first i (trail s n (next s i)) w) in
       let s′ = in-behind i in (
         ap (λ (k : Link). i ∷ k .next ∷ trail s′ n (next s′ (k .next))) r ∙ ap (λ (k : Link). i ∷ f ∷ trail s′ n (k .next)) q ∙ ap (λ t. i ∷ f ∷ t) (v .0),

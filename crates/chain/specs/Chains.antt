@@ -49,7 +49,7 @@ abbrev pub linked-first : Links → Order → List Link
 linked-first t o = set (t .at .now) (t .free) (linked o (t .head))
 
 abbrev pub linked-behind : Links → ℕ → Order → List Link
-linked-behind t i o = set (set (t .at .now) (t .free) (linked o (next (t .at .now) i))) i (linked (order-in (t .at .now) i) (t .free))
+linked-behind t i o = set (set (t .at .now) i (linked (order-in (t .at .now) i) (t .free))) (t .free) (linked o (next (t .at .now) i))
 
 abbrev pub unlinked-first : Links → List Link
 unlinked-first t = set (t .at .now) (t .head) (linked (order-in (t .at .now) (t .head)) (t .free))

@@ -17,7 +17,6 @@ pub(crate) fn link_up(at: &mut [Link])
     ensures { λ _. ⌜ ((k : ℕ) → k < length (now (at .exit)) → next (now (at .exit)) k ≡ k + 1) ⌝ }
 {
     for i in 0..at.len() {
-        let order = at[i].order;
-        at[i] = Link { order, next: i + 1 };
+        at[i].next = i + 1;
     }
 }

@@ -30,16 +30,21 @@ impl Slots<'_> {
         }
     }
 
+    // A walk along the orders.
+    fn walk(&self) -> Along<'_>
+        requires { ⌜ now self .used ≤ room (now self) ⌝ }
+        ensures { λ r. ⌜ now (r .orders) ≡ front (now (self .entry)) ⌝ }
+    {
+        Along {
+            orders: &self.at[0..self.used],
+        }
+    }
+
     pub fn find(&self, serial: u64) -> Option<usize>
         requires { ⌜ now self .used ≤ room (now self) ⌝ }
         ensures { λ r. ⌜ r ≡ place-of serial (front (now (self .entry))) ⌝ }
     {
-        walk::find(
-            &mut Along {
-                orders: &self.at[0..self.used],
-            },
-            serial,
-        )
+        walk::find(&mut self.walk(), serial)
     }
 
     // The place of a new order.
@@ -47,12 +52,7 @@ impl Slots<'_> {
         requires { ⌜ now self .used ≤ room (now self) ⌝ }
         ensures { λ r. ⌜ r ≡ place-in (R·Rank .before) (now (new .entry)) (front (now (self .entry))) ⌝ }
     {
-        walk::place::<R, Along>(
-            &mut Along {
-                orders: &self.at[0..self.used],
-            },
-            new,
-        )
+        walk::place::<R, Along>(&mut self.walk(), new)
     }
 
     // Moves what stands from `place` on one slot up, and writes `new` there.
