@@ -5,9 +5,9 @@ use mathlib.Core.List.{List, [], _∷_, _++_, append-assoc}
 use Prim.Native.Nat.{ℕ, _+_, _<_, _≤_}
 use lib.ListN.{length, getD, drop}
 use Rattle.std.proofs.shelf.Lists.{append-nil, at-drop-all, at-drop-more}
-use Rattle.drill.specs.declared.step.Answer.{Answer}
-use Rattle.drill.specs.declared.step.Step.{Step}
-use Rattle.drill.specs.Steps.{after, after-all, answer-of, answers}
+use Rattle.script.specs.declared.step.Answer.{Answer}
+use Rattle.script.specs.declared.step.Step.{Step}
+use Rattle.script.specs.Steps.{after, after-all, answer-of, answers}
 use Rattle.orders.specs.declared.order.Order.{Order}
 use Rattle.shelves.specs.Ranks.{Standing}
 

@@ -13,10 +13,10 @@ use Rattle.std.specs.declared.option.Option.{Option}
 use Rattle.std.specs.declared.option.Option.the-variants.{Some, None}
 use Rattle.std.specs.declared.result.Result.{Result}
 use Rattle.std.specs.declared.result.Result.the-variants.{Ok, Err}
-use Rattle.drill.specs.declared.step.Answer.{Answer}
-use Rattle.drill.specs.declared.step.Answer.the-variants.{Done, Refused, Shown, Found, Nothing}
-use Rattle.drill.specs.declared.step.Step.{Step}
-use Rattle.drill.specs.declared.step.Step.the-variants.{Put, Take, Write, Find, Show}
+use Rattle.script.specs.declared.step.Answer.{Answer}
+use Rattle.script.specs.declared.step.Answer.the-variants.{Done, Refused, Shown, Found, Nothing}
+use Rattle.script.specs.declared.step.Step.{Step}
+use Rattle.script.specs.declared.step.Step.the-variants.{Put, Take, Write, Find, Show}
 use Rattle.orders.specs.Phases.{session-set}
 use Rattle.orders.specs.declared.kind.Kind.the-variants.{Limit}
 use Rattle.orders.specs.declared.order.Order.{Order}

@@ -1,35 +1,12 @@
-// The scripts, and the run of one on any shelf.
-ghost use mathlib.Core.Path.{_≡_};
-ghost use Rattle.drill.specs.Steps.{after-all, answers};
-ghost use Rattle.std.specs.Of.Vec.{vec-items};
-ghost use Rattle.std.specs.Vec.{made};
-use crate::step::Answer;
-use crate::step::Step;
-use crate::step::perform;
+// The scripts of the drill.
 use orders::kind::Kind;
+use script::step::Answer;
+use script::step::Step;
 use shelves::rank::Bid;
 use shelves::rank::BidRank;
 use shelves::rank::Rank;
-use shelves::shelf::Shelf;
 use std::alloc::AllocError;
 use std::alloc::Global;
-
-// Carries out a script on any shelf. Its answers, and the orders that it leaves, follow from the
-// rank, the number of places and the orders before, and from nothing else.
-pub fn run<R: Rank, S: Shelf<R>>(
-    heap: Global,
-    shelf: &mut S,
-    script: &[Step],
-) -> Result<Vec<Answer>, AllocError>
-    ensures answers { λ r. ⌜ made r (λ v. vec-items v ≡ answers (R·Rank .before) (S·Shelf .room (now (shelf .entry))) (now (script .entry)) (S·Shelf .orders (now (shelf .entry)))) ⌝ }
-    ensures orders { λ r. ⌜ made r (λ _. S·Shelf .orders (now (shelf .exit)) ≡ after-all (R·Rank .before) (S·Shelf .room (now (shelf .entry))) (now (script .entry)) (S·Shelf .orders (now (shelf .entry)))) ⌝ }
-{
-    let mut answers = Vec::new(heap);
-    for step in script {
-        answers.push(perform::<R, S>(shelf, *step))?;
-    }
-    Ok(answers)
-}
 
 // Refusals of every sort, orders at one price and at others, a shelf emptied and filled again.
 pub fn mixed(heap: Global) -> Result<Vec<Step>, AllocError> {

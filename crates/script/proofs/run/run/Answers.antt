@@ -2,10 +2,10 @@ use mathlib.Core.Path.{sym, ap, _∙_}
 use mathlib.Core.List.{[], _∷_, _++_}
 use lib.ListN.{getD}
 use Rattle.std.specs.Of.Vec.{vec-items}
-use Rattle.drill.specs.declared.step.Step.the-variants.{Put}
-use Rattle.drill.specs.Steps.{after, answer-of}
-use Rattle.drill.proofs.Runs.{after-end, after-more, answers-end, answers-more}
-use Rattle.drill.proofs.script.run.Needs as need
+use Rattle.script.specs.declared.step.Step.the-variants.{Put}
+use Rattle.script.specs.Steps.{after, answer-of}
+use Rattle.script.proofs.Runs.{after-end, after-more, answers-end, answers-more}
+use Rattle.script.proofs.run.run.Needs as need
 
 pub loop-step-again : need.loop-step-again
 loop-step-again g c =

@@ -2,8 +2,8 @@ use mathlib.Core.Path.{_≡_}
 use mathlib.Core.List.{_++_}
 use lib.ListN.{drop}
 use Rattle.std.specs.Of.Vec.{vec-items}
-use Rattle.drill.specs.Steps.{after-all, answers}
-use Rattle.drill.proofs.script.run.Given as given
+use Rattle.script.specs.Steps.{after-all, answers}
+use Rattle.script.proofs.run.run.Given as given
 
 -- what the steps ahead make of the shelf now is what all of them make of it at first
 abbrev pub Inv-loop-step : given.InvT-loop-step

@@ -1,8 +1,7 @@
 // One call of a shelf, and what it answered.
 ghost use mathlib.Core.Path.{_≡_};
-ghost use Rattle.drill.specs.Steps.{after, answer-of, buy, shown};
+ghost use Rattle.script.specs.Steps.{after, answer-of, buy, shown};
 use orders::kind::Kind;
-use orders::kind::KindDebug;
 use orders::order::Order;
 use orders::order::OrderDebug;
 use orders::order::OrderEq;
@@ -16,7 +15,6 @@ use shelves::shelf::PutRefusalDebug;
 use shelves::shelf::PutRefusalEq;
 use shelves::shelf::PutRefusalPartialEq;
 use shelves::shelf::Shelf;
-use std::fmt;
 
 #[derive(Clone, Copy)]
 pub enum Step {
@@ -103,44 +101,5 @@ pub fn perform<R: Rank, S: Shelf<R>>(shelf: &mut S, step: Step) -> Answer
             None => Answer::Nothing,
         },
         Step::Show(place) => shown(shelf.show(place)),
-    }
-}
-
-pub impl fmt::Display for Step as StepDisplay {
-    fn fmt<W: fmt::Write>(&self, f: &mut fmt::Formatter<W>) -> fmt::Result {
-        match self {
-            Step::Put { serial, price } => write!(f, "put {serial} at {price}"),
-            Step::Take(place) => write!(f, "take {place}"),
-            Step::Write {
-                place,
-                balance,
-                kind,
-                minimum,
-            } => {
-                write!(
-                    f,
-                    "write {place}, balance {balance}, {kind:?}, minimum {minimum}"
-                )
-            }
-            Step::Find(serial) => write!(f, "find {serial}"),
-            Step::Show(place) => write!(f, "show {place}"),
-        }
-    }
-}
-
-pub impl fmt::Display for Answer as AnswerDisplay {
-    fn fmt<W: fmt::Write>(&self, f: &mut fmt::Formatter<W>) -> fmt::Result {
-        match self {
-            Answer::Done => write!(f, "done"),
-            Answer::Refused(PutRefusal::Full) => write!(f, "refused, every place is used"),
-            Answer::Refused(PutRefusal::SerialHeld) => write!(f, "refused, the serial is there"),
-            Answer::Shown(order) => write!(
-                f,
-                "{} at {}, balance {}, {:?}, minimum {}",
-                order.serial, order.price, order.balance, order.kind, order.minimum
-            ),
-            Answer::Found(place) => write!(f, "place {place}"),
-            Answer::Nothing => write!(f, "nothing"),
-        }
     }
 }
