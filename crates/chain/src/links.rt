@@ -15,17 +15,17 @@ mod changes;
 
 // A struct of its own, since a slice beside a ghost field could not be lent on.
 #[derive(Drop)]
-pub struct Links<'a> {
-    pub at: &'a mut [Link],
-    pub used: usize,
+pub(crate) struct Links<'a> {
+    pub(crate) at: &'a mut [Link],
+    pub(crate) used: usize,
     // The slot of the first order, if there is one.
-    pub head: usize,
+    pub(crate) head: usize,
     // The first free slot, if there is one.
-    pub free: usize,
+    pub(crate) free: usize,
 }
 
 impl Links<'_> {
-    pub fn count(&self) -> usize
+    pub(crate) fn count(&self) -> usize
         ensures { λ r. ⌜ r ≡ now (self .entry) .used ⌝ }
     {
         self.used
@@ -43,7 +43,7 @@ impl Links<'_> {
         }
     }
 
-    pub fn find(&self, serial: u64) -> Option<usize>
+    pub(crate) fn find(&self, serial: u64) -> Option<usize>
         requires { ⌜ inside (now self) ⌝ }
         ensures { λ r. ⌜ r ≡ place-of serial (held (now (self .entry))) ⌝ }
     {
@@ -51,7 +51,7 @@ impl Links<'_> {
     }
 
     // The place of a new order.
-    pub fn place<R: Rank>(&self, new: &Order) -> usize
+    pub(crate) fn place<R: Rank>(&self, new: &Order) -> usize
         requires { ⌜ inside (now self) ⌝ }
         ensures { λ r. ⌜ r ≡ place-in (R·Rank .before) (now (new .entry)) (held (now (self .entry))) ⌝ }
     {
@@ -59,7 +59,7 @@ impl Links<'_> {
     }
 
     // The slot of the order at `place`.
-    pub fn slot(&self, place: usize) -> usize
+    pub(crate) fn slot(&self, place: usize) -> usize
         requires inside { ⌜ inside (now self) ⌝ }
         requires place { ⌜ place < now self .used ⌝ }
         ensures slot { λ r. ⌜ r ≡ slot (now (self .entry)) place ⌝ }
@@ -72,7 +72,7 @@ impl Links<'_> {
         at
     }
 
-    pub fn show(&self, place: usize) -> Option<Order>
+    pub(crate) fn show(&self, place: usize) -> Option<Order>
         requires { ⌜ inside (now self) ⌝ }
         ensures { λ r. ⌜ r ≡ shown (now (self .entry)) place ⌝ }
     {

@@ -6,10 +6,10 @@ use orders::order::Order;
 use shelves::walk::Walk;
 
 #[derive(Drop)]
-pub struct Trail<'a> {
-    pub links: &'a [Link],
-    pub left: usize,
-    pub at: usize,
+pub(crate) struct Trail<'a> {
+    pub(crate) links: &'a [Link],
+    pub(crate) left: usize,
+    pub(crate) at: usize,
     ghost inside: { Inside (now links) left at },
 }
 

@@ -4,8 +4,8 @@ use orders::order::Order;
 use shelves::walk::Walk;
 
 #[derive(Drop)]
-pub struct Along<'a> {
-    pub orders: &'a [Order],
+pub(crate) struct Along<'a> {
+    pub(crate) orders: &'a [Order],
 }
 
 pub impl<'a> Walk for Along<'a> as AlongWalk {

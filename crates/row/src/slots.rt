@@ -13,13 +13,13 @@ use shelves::walk;
 
 // A struct of its own, since a slice beside a ghost field could not be lent on.
 #[derive(Drop)]
-pub struct Slots<'a> {
-    pub at: &'a mut [Order],
-    pub used: usize,
+pub(crate) struct Slots<'a> {
+    pub(crate) at: &'a mut [Order],
+    pub(crate) used: usize,
 }
 
 impl Slots<'_> {
-    pub fn show(&self, place: usize) -> Option<Order>
+    pub(crate) fn show(&self, place: usize) -> Option<Order>
         requires { ⌜ now self .used ≤ room (now self) ⌝ }
         ensures { λ r. ⌜ r ≡ shown (now (self .entry)) place ⌝ }
     {
@@ -40,7 +40,7 @@ impl Slots<'_> {
         }
     }
 
-    pub fn find(&self, serial: u64) -> Option<usize>
+    pub(crate) fn find(&self, serial: u64) -> Option<usize>
         requires { ⌜ now self .used ≤ room (now self) ⌝ }
         ensures { λ r. ⌜ r ≡ place-of serial (front (now (self .entry))) ⌝ }
     {
@@ -48,7 +48,7 @@ impl Slots<'_> {
     }
 
     // The place of a new order.
-    pub fn place<R: Rank>(&self, new: &Order) -> usize
+    pub(crate) fn place<R: Rank>(&self, new: &Order) -> usize
         requires { ⌜ now self .used ≤ room (now self) ⌝ }
         ensures { λ r. ⌜ r ≡ place-in (R·Rank .before) (now (new .entry)) (front (now (self .entry))) ⌝ }
     {
@@ -56,7 +56,7 @@ impl Slots<'_> {
     }
 
     // Moves what stands from `place` on one slot up, and writes `new` there.
-    pub fn insert(&mut self, place: usize, new: Order)
+    pub(crate) fn insert(&mut self, place: usize, new: Order)
         requires { ⌜ (place ≤ now self .used) × (now self .used < room (now self)) ⌝ }
         ensures slots { λ _. ⌜ now (now (self .exit) .at) ≡ opened (now (self .entry)) place new ⌝ }
         ensures used { λ _. ⌜ now (self .exit) .used ≡ now (self .entry) .used + 1 ⌝ }
@@ -68,7 +68,7 @@ impl Slots<'_> {
     }
 
     // Moves what stands behind `place` one slot down.
-    pub fn remove(&mut self, place: usize)
+    pub(crate) fn remove(&mut self, place: usize)
         requires { ⌜ (place < now self .used) × (now self .used ≤ room (now self)) ⌝ }
         ensures slots { λ _. ⌜ now (now (self .exit) .at) ≡ closed (now (self .entry)) place ⌝ }
         ensures used { λ _. ⌜ now (self .exit) .used ≡ now (self .entry) .used - 1 ⌝ }
@@ -79,7 +79,7 @@ impl Slots<'_> {
     }
 
     // Gives the order at `place` a new balance, kind and minimum.
-    pub fn renew(&mut self, place: usize, balance: u32, kind: Kind, minimum: u32)
+    pub(crate) fn renew(&mut self, place: usize, balance: u32, kind: Kind, minimum: u32)
         requires { ⌜ place < room (now self) ⌝ }
         ensures slots { λ _. ⌜ now (now (self .exit) .at) ≡ rewritten (now (now (self .entry) .at)) place balance kind minimum ⌝ }
         ensures used { λ _. ⌜ now (self .exit) .used ≡ now (self .entry) .used ⌝ }

@@ -28,17 +28,19 @@ stands [] i o e = let z : _≡_ {A = ℕ} 0 1 = cc in absurd (omega arith)
 stands (x ∷ xs) zero o e = (omega arith, cc)
 stands (x ∷ xs) (suc i) o e = let s = stands xs i o e in (omega arith, s .1)
 
-pub past : (xs : List Order) (i : ℕ) → nth xs i ≡ None → length xs ≤ i
+past : (xs : List Order) (i : ℕ) → nth xs i ≡ None → length xs ≤ i
 past [] i e = omega arith
 past (x ∷ xs) zero e = let z : _≡_ {A = ℕ} 0 1 = cc in absurd (omega arith)
 past (x ∷ xs) (suc i) e = let s = past xs i e in omega arith
 
--- past the end a take and a write change nothing
-pub removed-past : (xs : List Order) (i : ℕ) → length xs ≤ i → removed xs i ≡ xs
-removed-past xs i h = rw (take-all i xs h, drop-all (suc i) xs (omega arith)) (append-nil xs)
+-- where none stands a take and a write change nothing
+pub removed-none : (xs : List Order) (i : ℕ) → nth xs i ≡ None → xs ≡ removed xs i
+removed-none xs i e =
+    let h = past xs i e in
+    sym (rw (take-all i xs h, drop-all (suc i) xs (omega arith)) (append-nil xs))
 
-pub rewritten-past : (xs : List Order) (i b : ℕ) (k : Kind) (m : ℕ) → length xs ≤ i → rewritten xs i b k m ≡ xs
-rewritten-past xs i b k m h = set-past xs i _ h
+pub rewritten-none : (xs : List Order) (i b : ℕ) (k : Kind) (m : ℕ) → nth xs i ≡ None → xs ≡ rewritten xs i b k m
+rewritten-none xs i b k m e = sym (set-past xs i _ (past xs i e))
 
 -- serials after a write
 pub has-rewritten : (n : ℕ) (xs : List Order) (i b : ℕ) (k : Kind) (m : ℕ) → has n (rewritten xs i b k m) ≡ has n xs

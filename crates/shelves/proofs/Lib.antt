@@ -1,3 +1,4 @@
 pub mod Checks
 pub mod Keeping
+pub mod Ranks
 pub mod Searches

@@ -2,6 +2,7 @@
 --     Standing            all of an order that no fill changes: no balance, no kind, no minimum
 --     standing o          the standing of the order o
 --     Ranking before      before is a total order on standings with different serials
+--     earlier a b         the same price, and a lower serial
 --     bid-before, offer-before, waiting-before      the ranks of the three shelves of a board
 use mathlib.Core.Path.{_≡_}
 use mathlib.Core.Bool.{Bool, true, false, _||_, _&&_}

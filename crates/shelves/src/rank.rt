@@ -2,7 +2,7 @@
 ghost use mathlib.Core.Path.{_≡_};
 ghost use mathlib.Core.Bool.{Bool};
 ghost use denote.Ref.{now};
-ghost use Rattle.shelves.specs.Ranks.{Ranking, Standing, bid-before, offer-before, standing, waiting-before};
+ghost use Rattle.shelves.specs.Ranks.{Ranking, Standing, bid-before, earlier, offer-before, standing, waiting-before};
 use orders::order::Order;
 
 pub trait Rank {
@@ -24,11 +24,18 @@ pub struct Offer;
 // Lowest serial first.
 pub struct Waiting;
 
+// The same price, and a lower serial.
+fn earlier(a: &Order, b: &Order) -> bool
+    ensures { λ r. ⌜ r ≡ earlier (standing (now (a .entry))) (standing (now (b .entry))) ⌝ }
+{
+    a.price == b.price && a.serial < b.serial
+}
+
 pub impl Rank for Bid as BidRank {
     ghost before = { bid-before };
 
     fn precedes(a: &Order, b: &Order) -> bool {
-        a.price > b.price || (a.price == b.price && a.serial < b.serial)
+        a.price > b.price || earlier(a, b)
     }
 }
 
@@ -36,7 +43,7 @@ pub impl Rank for Offer as OfferRank {
     ghost before = { offer-before };
 
     fn precedes(a: &Order, b: &Order) -> bool {
-        a.price < b.price || (a.price == b.price && a.serial < b.serial)
+        a.price < b.price || earlier(a, b)
     }
 }
 

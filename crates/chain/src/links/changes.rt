@@ -59,7 +59,7 @@ impl Links<'_> {
     }
 
     // Puts `new` at `place` among the orders.
-    pub fn insert(&mut self, place: usize, new: Order)
+    pub(crate) fn insert(&mut self, place: usize, new: Order)
         requires sound { ⌜ Sound (now self) ⌝ }
         requires place { ⌜ place ≤ now self .used ⌝ }
         requires free { ⌜ now self .used < room (now self) ⌝ }
@@ -113,7 +113,7 @@ impl Links<'_> {
     }
 
     // Takes out the order at `place`.
-    pub fn remove(&mut self, place: usize)
+    pub(crate) fn remove(&mut self, place: usize)
         requires sound { ⌜ Sound (now self) ⌝ }
         requires fits { ⌜ now self .used ≤ room (now self) ⌝ }
         requires place { ⌜ place < now self .used ⌝ }
@@ -145,7 +145,7 @@ impl Links<'_> {
     }
 
     // Gives the order at `place` a new balance, kind and minimum.
-    pub fn renew(&mut self, place: usize, balance: u32, kind: Kind, minimum: u32)
+    pub(crate) fn renew(&mut self, place: usize, balance: u32, kind: Kind, minimum: u32)
         requires sound { ⌜ Sound (now self) ⌝ }
         requires fits { ⌜ now self .used ≤ room (now self) ⌝ }
         requires place { ⌜ place < now self .used ⌝ }

@@ -1,6 +1,6 @@
 use mathlib.Core.Path.{refl, sym, ap, _∙_}
 use Rattle.shelves.specs.Lists.{distinct}
-use Rattle.shelves.proofs.Keeping.{distinct-removed, past, removed-past}
+use Rattle.shelves.proofs.Keeping.{distinct-removed, removed-none}
 use Rattle.chain.specs.Chains.{held}
 use Rattle.chain.proofs.Calls.{used-place}
 use Rattle.chain.proofs.ChainShelf.take.Needs as need
@@ -11,7 +11,7 @@ returns-in-Break-taken g c =
     let none = sym (c .show .ensures) ∙ c .in-Break-taken .was tt in
     rw (c .from-residual .ensures) (record {
       answer = sym none;
-      orders = sym (removed-past xs (c .args .place) (past xs (c .args .place) none));
+      orders = removed-none xs (c .args .place) none;
       room = refl;
     })
 

@@ -1,7 +1,7 @@
 use mathlib.Core.Path.{refl, sym, ap, _∙_}
 use Rattle.std.specs.Options.{mapped}
 use Rattle.shelves.specs.Lists.{distinct}
-use Rattle.shelves.proofs.Keeping.{distinct-rewritten, past, rewritten-past}
+use Rattle.shelves.proofs.Keeping.{distinct-rewritten, rewritten-none}
 use Rattle.chain.specs.Chains.{held}
 use Rattle.chain.proofs.Calls.{used-place}
 use Rattle.chain.proofs.ChainShelf.write.Needs as need
@@ -12,7 +12,7 @@ returns-in-Break-show g c =
     let none = sym (c .show .ensures) ∙ c .in-Break-show .was tt in
     rw (c .from-residual .ensures) (record {
       answer = sym (ap (mapped (λ _. tt)) none);
-      orders = sym (rewritten-past xs (c .args .place) _ _ _ (past xs (c .args .place) none));
+      orders = rewritten-none xs (c .args .place) _ _ _ none;
       room = refl;
     })
 

@@ -1,5 +1,5 @@
 use mathlib.Core.Path.{refl, sym, _∙_}
-use Rattle.shelves.proofs.Keeping.{past, removed-past}
+use Rattle.shelves.proofs.Keeping.{removed-none}
 use Rattle.row.specs.Slots.{front}
 use Rattle.row.proofs.Fronts.{after-remove, used-place}
 use Rattle.row.proofs.RowShelf.take.Needs as need
@@ -10,7 +10,7 @@ returns-in-Break-taken g c =
     let none = sym (c .show .ensures) ∙ c .in-Break-taken .was tt in
     rw (c .from-residual .ensures) (record {
       answer = sym none;
-      orders = sym (removed-past xs (c .args .place) (past xs (c .args .place) none));
+      orders = removed-none xs (c .args .place) none;
       room = refl;
     })
 

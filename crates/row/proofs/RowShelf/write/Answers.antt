@@ -1,7 +1,7 @@
 use mathlib.Core.Path.{refl, sym, ap, _∙_}
 use native.Mathlib.Omega.{arith}
 use Rattle.std.specs.Options.{mapped}
-use Rattle.shelves.proofs.Keeping.{past, rewritten-past}
+use Rattle.shelves.proofs.Keeping.{rewritten-none}
 use Rattle.row.specs.Slots.{front}
 use Rattle.row.proofs.Fronts.{after-renew, used-place}
 use Rattle.row.proofs.RowShelf.write.Needs as need
@@ -12,7 +12,7 @@ returns-in-Break-show g c =
     let none = sym (c .show .ensures) ∙ c .in-Break-show .was tt in
     rw (c .from-residual .ensures) (record {
       answer = sym (ap (mapped (λ _. tt)) none);
-      orders = sym (rewritten-past xs (c .args .place) _ _ _ (past xs (c .args .place) none));
+      orders = rewritten-none xs (c .args .place) _ _ _ none;
       room = refl;
     })
 
