@@ -1,25 +1,21 @@
--- What a put, a take and a write keep of a shelf's list. Assumes nothing.
+-- What a put, a take and a write keep of a shelf's list: distinct serials and rank order. Assumes nothing.
 use mathlib.Core.Path.{_≡_, _∙_, ap, refl, sym}
 use mathlib.Core.Bool.{Bool, true, false, cond, not, _&&_, _||_}
-use mathlib.Core.List.{List, [], _∷_, _++_}
-use mathlib.Core.Logic.{_⊎_, inl, inr}
-use Prim.Native.Nat.{ℕ, _+_, _<_, _≤_, zero, suc}
+use mathlib.Core.List.{List, [], _∷_}
+use Prim.Native.Nat.{ℕ, _<_, _≤_, zero, suc}
 use native.Mathlib.Omega.{arith}
 use lib.Dec.{eqb}
-use lib.ListN.{length, getD, set, take, drop}
+use lib.ListN.{length, getD}
 use Rattle.std.specs.Finite.{nth}
 use Rattle.std.specs.Holes.{inserted, removed}
-use Rattle.std.specs.shelf.Lists.{All, Has, sumBy}
 use Rattle.std.specs.declared.option.Option.the-variants.{Some, None}
-use Rattle.std.proofs.shelf.Elements.{all-append, all-drop, all-has, all-has-itself, all-set, all-take, all-weaker}
 use Rattle.std.proofs.shelf.Lists.{append-nil, drop-all, set-past, take-all}
-use Rattle.std.proofs.shelf.Sums.{sumBy-append, sumBy-cons, sumBy-set, sumBy-take-drop}
 use Rattle.std.proofs.shelf.Tests.{and-parts, eqb-false, not-true, or-parts}
 use Rattle.std.proofs.shelf.Ways.{tells}
 use Rattle.orders.specs.declared.kind.Kind.{Kind}
 use Rattle.orders.specs.declared.order.Order.{Order}
+use Rattle.shelves.specs.Laws.{Keeps-distinct, Keeps-rank}
 use Rattle.shelves.specs.Lists.{distinct, has, leads, nobody, place-in, placed, ranked, renewed, rewritten}
-use Rattle.shelves.specs.Laws.{Keeps-distinct, Keeps-rank, Members, Totals}
 use Rattle.shelves.specs.Ranks.{Ranking, Standing, standing}
 
 -- whether an order stands at a place
@@ -166,56 +162,3 @@ module _ {before : Standing → Standing → Bool} (r : Ranking before) where
     take = ranked-removed before;
     write = λ xs i b k m h. ranked-rewritten before xs i b k m ∙ h;
   }
-
--- what holds of every member
-module _ (P : Order → Type 0) where
-  pub all-inserted : (xs : List Order) (i : ℕ) (o : Order) → P o → All P xs → All P (inserted xs i o)
-  all-inserted xs i o p h = all-append P (take i xs) (o ∷ drop i xs) (all-take P i xs h) (p, all-drop P i xs h)
-
-  pub all-removed : (xs : List Order) (i : ℕ) → All P xs → All P (removed xs i)
-  all-removed xs i h = all-append P (take i xs) (drop (suc i) xs) (all-take P i xs h) (all-drop P (suc i) xs h)
-
-pub members : (before : Standing → Standing → Bool) → Members before
-members before = record {
-  put = λ o x xs. all-has _ (placed before o xs) x
-      (all-inserted (λ y. (o ≡ y) ⊎ Has xs y) xs (place-in before o xs) o (inl refl) (old o xs));
-  take = λ x xs i. all-has _ (removed xs i) x (all-removed (Has xs) xs i (all-has-itself xs));
-  write = λ o x xs i b k m e. all-has _ (rewritten xs i b k m) x
-      (all-set (λ y. (renewed o b k m ≡ y) ⊎ Has xs y) xs i _ (inl (ap (λ y. renewed y b k m) (sym (stands xs i o e .1)))) (old (renewed o b k m) xs));
-}
-  where
-    old : (o : Order) (xs : List Order) → All (λ y. (o ≡ y) ⊎ Has xs y) xs
-    old o xs = all-weaker (Has xs) (λ y. (o ≡ y) ⊎ Has xs y) (λ _. inr) xs (all-has-itself xs)
-
-module _ (f : Order → ℕ) where
-  pub sum-inserted : (xs : List Order) (i : ℕ) (o : Order) → sumBy f (inserted xs i o) ≡ f o + sumBy f xs
-  sum-inserted xs i o =
-      let a = sumBy-append f (take i xs) (o ∷ drop i xs) in
-      let b = sumBy-cons f o (drop i xs) in
-      let s = sumBy-take-drop f xs i in
-      omega arith
-
-  pub sum-removed : (o : Order) (xs : List Order) (i : ℕ) → nth xs i ≡ Some o → f o + sumBy f (removed xs i) ≡ sumBy f xs
-  sum-removed o [] i e = let z : _≡_ {A = ℕ} 0 1 = cc in absurd (omega arith)
-  sum-removed o (x ∷ xs) zero e = let s = sumBy-cons f x xs in let q : x ≡ o = cc in ap (λ y. f y + sumBy f xs) (sym q) ∙ sym s
-  sum-removed o (x ∷ xs) (suc i) e =
-      let a = sumBy-cons f x xs in
-      let b = sumBy-cons f x (removed xs i) in
-      let s = sum-removed o xs i e in
-      omega arith
-
-  pub sum-rewritten : (o : Order) (xs : List Order) (i b : ℕ) (k : Kind) (m : ℕ) → nth xs i ≡ Some o →
-      f o + sumBy f (rewritten xs i b k m) ≡ f (renewed o b k m) + sumBy f xs
-  sum-rewritten o xs i b k m e =
-      let s = stands xs i o e in
-      let t = sumBy-set f xs i (renewed (getD xs i nobody) b k m) nobody (s .0) in
-      let u = ap f (s .1) in
-      let v = ap (λ y. f (renewed y b k m)) (s .1) in
-      omega arith
-
-pub totals : (before : Standing → Standing → Bool) → Totals before
-totals before = record {
-  put = λ f o xs. sum-inserted f xs (place-in before o xs) o;
-  take = sum-removed;
-  write = sum-rewritten;
-}

@@ -1,4 +1,5 @@
 pub mod Checks
 pub mod Keeping
+pub mod Membership
 pub mod Ranks
 pub mod Searches

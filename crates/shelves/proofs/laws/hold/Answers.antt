@@ -1,4 +1,5 @@
-use Rattle.shelves.proofs.Keeping.{keeps-distinct, keeps-rank, members, totals}
+use Rattle.shelves.proofs.Keeping.{keeps-distinct, keeps-rank}
+use Rattle.shelves.proofs.Membership.{members, totals}
 use Rattle.shelves.proofs.laws.hold.Needs as need
 
 pub returns : need.returns
