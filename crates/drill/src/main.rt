@@ -11,11 +11,10 @@ use script::run::run;
 use script::step::AnswerPartialEq;
 use script::step::Step;
 use script::step::order;
-use scripts::emptied;
+use scripts::MIXED;
+use scripts::PROBE;
 use scripts::filled;
 use scripts::in_rank;
-use scripts::mixed;
-use scripts::probed;
 use shelves::rank::Bid;
 use shelves::rank::BidRank;
 use std::error::AnyError;
@@ -28,25 +27,21 @@ use text::StepTextDisplay;
 const PRINTED: usize = 100;
 
 fn main(rt: LibcRuntime) -> Result<(), AnyError> {
-    let heap = rt.alloc();
-    let mixed = mixed(heap)?;
     for places in [0, 1, 4] {
-        drill(&rt, places, &[mixed.as_slice()])?;
+        drill(&rt, places, &[&MIXED])?;
     }
-    let fill = filled(heap, 4096)?;
-    let probe = probed(heap)?;
-    let empty = emptied(heap, 4096)?;
-    let once = [fill.as_slice(), probe.as_slice(), empty.as_slice()];
-    let twice = [once[0], once[1], once[2], once[0], once[1], once[2]];
-    drill(&rt, 4096, &twice)
+    let puts = filled(rt.alloc(), 4096)?;
+    let takes = vec![in rt.alloc(); Step::Take(0); 4096]?;
+    let fill = puts.as_slice();
+    let empty = takes.as_slice();
+    drill(&rt, 4096, &[fill, &PROBE, empty, fill, &PROBE, empty])
 }
 
-// Runs scripts, one after another, on a row and on a chain with so many places.
+// Runs scripts, one after another, on a row and on a chain of bids with so many places.
 fn drill(rt: &LibcRuntime, places: usize, scripts: &[&[Step]]) -> Result<(), AnyError> {
     println!(rt, "{places} places")?;
-    let heap = rt.alloc();
-    let mut slots = vec![in heap; order(0, 0); places]?;
-    let mut links = vec![in heap; Link {
+    let mut slots = vec![in rt.alloc(); order(0, 0); places]?;
+    let mut links = vec![in rt.alloc(); Link {
         order: order(0, 0),
         next: 0
     }; places]?;
@@ -71,7 +66,7 @@ fn compare(
     let alike = answers.as_slice() == others.as_slice();
     println!(rt, "  {steps} steps, row and chain answer alike: {alike}")?;
     if steps > PRINTED {
-        let ranked = in_rank(answers.as_slice());
+        let ranked = in_rank::<Bid>(answers.as_slice());
         println!(rt, "  what they show comes in rank order: {ranked}")?;
         return Ok(());
     }
