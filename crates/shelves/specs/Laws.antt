@@ -1,6 +1,7 @@
 -- What every put, take and write keeps of a shelf's list, whatever the rank. Assumes nothing.
 --     Keeps-rank before         a list in rank order stays in rank order
 --     Keeps-distinct before     a list of distinct serials stays one
+--     Finds                     what a search for a serial tells
 --     In x xs                   the order x stands on the list xs
 --     Iff A B                   A holds exactly if B does
 --     Members before            who is on the list afterwards
@@ -13,11 +14,12 @@ use mathlib.Core.Logic.{_⊎_}
 use Prim.Native.Nat.{ℕ, _+_}
 use Rattle.std.specs.Finite.{nth}
 use Rattle.std.specs.Holes.{removed}
+use Rattle.std.specs.Options.{isSome}
 use Rattle.std.specs.shelf.Lists.{sumBy}
 use Rattle.std.specs.declared.option.Option.the-variants.{Some}
 use Rattle.orders.specs.declared.kind.Kind.{Kind}
 use Rattle.orders.specs.declared.order.Order.{Order}
-use Rattle.shelves.specs.Lists.{distinct, has, placed, ranked, renewed, rewritten}
+use Rattle.shelves.specs.Lists.{distinct, has, place-of, placed, ranked, renewed, rewritten}
 use Rattle.shelves.specs.Ranks.{Standing}
 
 pub record Keeps-rank (before : Standing → Standing → Bool) : Type 0 where
@@ -29,6 +31,10 @@ pub record Keeps-distinct (before : Standing → Standing → Bool) : Type 0 whe
   pub put : (o : Order) (xs : List Order) → has (o .serial) xs ≡ false → distinct xs ≡ true → distinct (placed before o xs) ≡ true
   pub take : (xs : List Order) (i : ℕ) → distinct xs ≡ true → distinct (removed xs i) ≡ true
   pub write : (xs : List Order) (i b : ℕ) (k : Kind) (m : ℕ) → distinct xs ≡ true → distinct (rewritten xs i b k m) ≡ true
+
+pub record Finds : Type 0 where
+  pub absent : (n : ℕ) (xs : List Order) → isSome (place-of n xs) ≡ has n xs
+  pub there : (n : ℕ) (xs : List Order) (i : ℕ) → place-of n xs ≡ Some i → (o : Order) × (nth xs i ≡ Some o) × (o .serial ≡ n)
 
 abbrev pub In : Order → List Order → Type 0
 In x [] = ⊥

@@ -1,5 +1,5 @@
 // What puts, takes and writes keep of a shelf's list, for every rank.
-ghost use Rattle.shelves.specs.Laws.{Keeps-distinct, Keeps-rank, Members, Totals};
+ghost use Rattle.shelves.specs.Laws.{Finds, Keeps-distinct, Keeps-rank, Members, Totals};
 use crate::rank::Rank;
 
 // Every put, take and write keeps a list in rank order and its serials distinct, and changes no
@@ -7,6 +7,7 @@ use crate::rank::Rank;
 pub fn hold<R: Rank>()
     ensures rank { λ _. ⌜ Keeps-rank (R·Rank .before) ⌝ }
     ensures distinct { λ _. ⌜ Keeps-distinct (R·Rank .before) ⌝ }
+    ensures found { λ _. ⌜ Finds ⌝ }
     ensures members { λ _. ⌜ Members (R·Rank .before) ⌝ }
     ensures totals { λ _. ⌜ Totals (R·Rank .before) ⌝ }
 {}
