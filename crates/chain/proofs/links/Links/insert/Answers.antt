@@ -1,8 +1,6 @@
-use mathlib.Core.Path.{ap, sym, subst, _≡_}
+use mathlib.Core.Path.{_≡_}
 use Prim.Native.Nat.{_+_, _-_}
 use native.Mathlib.Omega.{arith}
-use Rattle.std.specs.Holes.{inserted}
-use Rattle.chain.specs.Chains.{Left, held}
 use Rattle.chain.proofs.Calls.{after-link-behind, after-link-first, free-slot, inside}
 use Rattle.chain.proofs.links.Links.insert.Needs as need
 
