@@ -7,6 +7,7 @@ use chain::ChainShelf;
 use chain::link::Link;
 use row::Row;
 use row::RowShelf;
+use script::ranked::ranked_pairs;
 use script::run::run;
 use script::step::AnswerPartialEq;
 use script::step::Step;
@@ -14,7 +15,6 @@ use script::step::order;
 use scripts::MIXED;
 use scripts::PROBE;
 use scripts::filled;
-use scripts::in_rank;
 use shelves::rank::Bid;
 use shelves::rank::BidRank;
 use std::error::AnyError;
@@ -66,8 +66,11 @@ fn compare(
     let alike = answers.as_slice() == others.as_slice();
     println!(rt, "  {steps} steps, row and chain answer alike: {alike}")?;
     if steps > PRINTED {
-        let ranked = in_rank::<Bid>(answers.as_slice());
-        println!(rt, "  what they show comes in rank order: {ranked}")?;
+        let pairs = ranked_pairs::<Bid>(answers.as_slice());
+        println!(
+            rt,
+            "  orders shown right behind one that comes before: {pairs}"
+        )?;
         return Ok(());
     }
     for (step, answer) in script.iter().zip(answers.iter()) {

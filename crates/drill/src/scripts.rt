@@ -1,8 +1,6 @@
 // The scripts of the drill.
 use orders::kind::Kind;
-use script::step::Answer;
 use script::step::Step;
-use shelves::rank::Rank;
 use std::alloc::AllocError;
 use std::alloc::Global;
 
@@ -161,16 +159,4 @@ pub fn filled(heap: Global, places: u32) -> Result<Vec<Step>, AllocError> {
         })?;
     }
     Ok(script)
-}
-
-// Whether each order shown comes before the one shown next.
-pub fn in_rank<R: Rank>(answers: &[Answer]) -> bool {
-    for pair in answers.windows(2) {
-        if let [Answer::Shown(a), Answer::Shown(b)] = pair {
-            if !R::precedes(a, b) {
-                return false;
-            }
-        }
-    }
-    true
 }

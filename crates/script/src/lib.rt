@@ -1,3 +1,4 @@
 // Scripts of calls, carried out on any shelf.
+pub mod ranked;
 pub mod run;
 pub mod step;

@@ -1,6 +1,7 @@
 // The run of a script on any shelf.
 ghost use mathlib.Core.Path.{_≡_};
-ghost use Rattle.script.specs.Steps.{after-all, answers};
+ghost use mathlib.Core.List.{[], _∷_, _++_};
+ghost use Rattle.script.specs.Steps.{after, after-all, answer-of, answers};
 ghost use Rattle.std.specs.Of.Vec.{vec-items};
 ghost use Rattle.std.specs.Vec.{made};
 use crate::step::Answer;
@@ -23,7 +24,21 @@ pub fn run<R: Rank, S: Shelf<R>>(
 {
     let mut answers = Vec::new(heap);
     for step in script {
-        answers.push(perform::<R, S>(shelf, *step))?;
+        go_on::<R, S>(shelf, *step, &mut answers)?;
     }
     Ok(answers)
+}
+
+// Carries out one step more and adds its answer to the others.
+fn go_on<R: Rank, S: Shelf<R>>(
+    shelf: &mut S,
+    step: Step,
+    answers: &mut Vec<Answer>,
+) -> Result<(), AllocError>
+    ensures answers { λ r. ⌜ made r (λ _. vec-items (now (answers .exit)) ≡ vec-items (now (answers .entry)) ++ answer-of (S·Shelf .room (now (shelf .entry))) step (S·Shelf .orders (now (shelf .entry))) ∷ []) ⌝ }
+    ensures orders { λ _. ⌜ S·Shelf .orders (now (shelf .exit)) ≡ after (R·Rank .before) (S·Shelf .room (now (shelf .entry))) step (S·Shelf .orders (now (shelf .entry))) ⌝ }
+    ensures room { λ _. ⌜ S·Shelf .room (now (shelf .exit)) ≡ S·Shelf .room (now (shelf .entry)) ⌝ }
+{
+    answers.push(perform::<R, S>(shelf, step))?;
+    Ok(())
 }

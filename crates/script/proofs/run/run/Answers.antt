@@ -16,9 +16,9 @@ loop-step-again g c =
     let xs = g .S·Shelf .orders (l .shelf) in
     let same = l .inv .2 in
     let step = getD script (l .step-index) (Put 0 0) in
-    let e = c .perform .ensures in
+    let e = c .in-Continue-go-on .ensures tt in
     let stepped = e .orders ∙ ap (λ n. after before n step xs) same in
-    let answered = c .in-Continue-push .ensures tt .items ∙ ap (λ a. vec-items (l .answers) ++ a ∷ []) (e .answer ∙ ap (λ n. answer-of n step xs) same) in (
+    let answered = e .answers ∙ ap (λ n. vec-items (l .answers) ++ answer-of n step xs ∷ []) same in (
       answers-more before room script (l .step-index) (Put 0 0) xs _ (c .loop-step-test .taken) stepped (vec-items (l .answers)) _ answered ∙ l .inv .0,
       after-more before room script (l .step-index) (Put 0 0) xs _ (c .loop-step-test .taken) stepped ∙ l .inv .1,
       e .room ∙ same,
