@@ -1,4 +1,6 @@
 // The words of the market: orders, what members send, what the board reports and why it refuses.
+#![tactic(auto)]
+
 pub mod cause;
 pub mod entry;
 pub mod kind;

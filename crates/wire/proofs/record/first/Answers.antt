@@ -27,8 +27,8 @@ returns-in-Some c =
     let h = c.in-Some.ensures.cases in
     ap (λ b. found (entry b)) (h.same ∙ ap (take 24) (rest_is l 2)) ∙ enters l (behind 24 l (omega arith) h.enough) (omega arith) (omega arith)
 
-pub returns-in-Some-first-chunk : goal.returns-in-Some-first-chunk
-returns-in-Some-first-chunk c =
+pub returns-in-Some-first_chunk : goal.returns-in-Some-first_chunk
+returns-in-Some-first_chunk c =
     let l = c.args.bytes.now in
-    let h = c.in-Some-first-chunk.ensures.cases in
+    let h = c.in-Some-first_chunk.ensures.cases in
     ap (λ b. found (cancel b)) (h.same ∙ ap (take 12) (rest_is l 2)) ∙ cancels l (behind 12 l (omega arith) h.enough) (omega arith) (omega arith)

@@ -7,8 +7,8 @@ use Rattle.wire.proofs.reader.Reader.next.Goals as goal
 fits : (l : List ℕ) → advance (front l) ≤ length l
 fits l = grind (arith, nat_tests)
 
-pub invariant-of-self : goal.invariant-of-self
-invariant-of-self c =
+pub invariant_of-self : goal.invariant_of-self
+invariant_of-self c =
     let h = fits c.rest.result.now in
     let k = length-drop c.args.self.now.at c.args.self.now.input.now in
     let e = ap length c.rest.ensures in
