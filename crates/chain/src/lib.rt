@@ -1,5 +1,6 @@
 // The chain: a shelf that links its slots by number and uses freed slots again.
 #![tactic(auto)]
+
 ghost use Rattle.std.specs.Prelude.{◌≡◌, ◌≤◌, true, [], length};
 ghost use Rattle.shelves.specs.Lists.{distinct};
 ghost use Rattle.chain.specs.Chains.{Sound, held, held_within, room};

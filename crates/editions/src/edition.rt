@@ -52,7 +52,7 @@ pub trait Edition {
 
     ghost width: { Self.Width.Number.value ≡ text.width };
 
-    ghost kinds: { (k : Kind) → Kinds-as-Set.member k ≡ text.kinds k };
+    ghost kinds: { (k : Kind) → Self.Kinds.Set.member k ≡ text.kinds k };
 
     ghost times: { (t : TimeInForce) → Self.Times.Set.member t ≡ text.times t };
 

@@ -1,5 +1,6 @@
 // What the desk prints of records, refusals and their parts, as text.
 #![tactic(auto)]
+
 pub mod letter;
 pub mod price;
 pub mod record;

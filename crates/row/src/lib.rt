@@ -1,5 +1,6 @@
 // The row: a shelf that keeps its orders one after another in the slots handed to it.
 #![tactic(auto)]
+
 ghost use Rattle.std.specs.Prelude.{◌≡◌, ◌≤◌, true, [], length};
 ghost use Rattle.shelves.specs.Lists.{distinct};
 ghost use Rattle.row.specs.Slots.{front, front_within, room};

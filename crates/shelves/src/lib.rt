@@ -1,5 +1,6 @@
 // Ranks, the place of a new order, and what a shelf is.
 #![tactic(auto)]
+
 pub mod laws;
 pub mod rank;
 pub mod shelf;

@@ -11,13 +11,13 @@ use Rattle.chain.proofs.ChainShelf.put.Goals as goal
 pub find-requires : goal.find-requires
 find-requires g c = let s = c.args.self.now in inside s.links s.sound
 
-pub returns-in-err-check-put : goal.returns-in-err-check-put
-returns-in-err-check-put g c =
+pub returns-in_err-check_put : goal.returns-in_err-check_put
+returns-in_err-check_put g c =
     let s = c.args.self.now in
-    let p = err_from_is_err_and c.from-residual.result c.from-residual.ensures.1 in
+    let p = err_from_is_err_and c.from_residual.result c.from_residual.ensures.1 in
     let same = checked (room s.links) s.links.used c.args.new (held s.links) _ _ _
-    (length-held s.links) c.find.ensures c.is-some-held.ensures c.check-put.ensures in
-    rw (p.1, p.2) (record { answer = sym c.in-err-check-put.was ∙ same; orders = refl; room = refl })
+    (length-held s.links) c.find.ensures c.is_some-held.ensures c.check_put.ensures in
+    rw (p.1, p.2) (record { answer = sym c.in_err-check_put.was ∙ same; orders = refl; room = refl })
 
 pub place-place-requires : goal.place-place-requires
 place-place-requires g c = let s = c.args.self.now in inside s.links s.sound
@@ -26,27 +26,27 @@ pub insert-requires : goal.insert-requires
 insert-requires g c =
     let s = c.args.self.now in
     let free = passed (room s.links) s.links.used c.args.new (held s.links) _ _ _
-    (length-held s.links) c.find.ensures c.is-some-held.ensures c.check-put.ensures
-    g.R.Rank.before _ _ c.in-ok-check-put.was c.place-place.ensures in
+    (length-held s.links) c.find.ensures c.is_some-held.ensures c.check_put.ensures
+    g.R.Rank.before _ _ c.in_ok-check_put.was c.place-place.ensures in
     record { sound = s.sound; place = free.0; free = free.1 }
 
-pub invariant-of-self : goal.invariant-of-self
-invariant-of-self g c =
+pub invariant_of-self : goal.invariant_of-self
+invariant_of-self g c =
     let s = c.args.self.now in
     let free = passed (room s.links) s.links.used c.args.new (held s.links) _ _ _
-    (length-held s.links) c.find.ensures c.is-some-held.ensures c.check-put.ensures
-    g.R.Rank.before _ _ c.in-ok-check-put.was c.place-place.ensures in
+    (length-held s.links) c.find.ensures c.is_some-held.ensures c.check_put.ensures
+    g.R.Rank.before _ _ c.in_ok-check_put.was c.place-place.ensures in
     let t = c.insert.ensures in
-    (t.fits, (t.sound, (ap distinct t.orders ∙ distinct-inserted (held s.links) _ c.args.new free.2 s.apart, tt)))
+    record { fits = t.fits; sound = t.sound; apart = ap distinct t.orders ∙ distinct-inserted (held s.links) _ c.args.new free.2 s.apart }
 
 pub returns : goal.returns
 returns g c =
     let s = c.args.self.now in
     let same = checked (room s.links) s.links.used c.args.new (held s.links) _ _ _
-    (length-held s.links) c.find.ensures c.is-some-held.ensures c.check-put.ensures in
+    (length-held s.links) c.find.ensures c.is_some-held.ensures c.check_put.ensures in
     let t = c.insert.ensures in
     record {
-      answer = sym c.in-ok-check-put.was ∙ same;
+      answer = sym c.in_ok-check_put.was ∙ same;
       orders = t.orders ∙ ap (λ p. insert (held s.links) p c.args.new) c.place-place.ensures;
       room = t.room_same;
     }

@@ -6,11 +6,11 @@ use Rattle.chain.specs.Chains.{held}
 use Rattle.chain.proofs.Calls.{used_place}
 use Rattle.chain.proofs.ChainShelf.write.Goals as goal
 
-pub returns-in-err-show : goal.returns-in-err-show
-returns-in-err-show g c =
+pub returns-in_err-show : goal.returns-in_err-show
+returns-in_err-show g c =
     let xs = held c.args.self.now.links in
-    let none = sym c.show.ensures ∙ c.in-err-show.was in
-    rw c.from-residual.ensures (record {
+    let none = sym c.show.ensures ∙ c.in_err-show.was in
+    rw c.from_residual.ensures (record {
       answer = sym (ap (option_map (λ _. tt)) none);
       orders = rewritten-none xs c.args.place _ _ _ none;
       room = refl;
@@ -22,17 +22,17 @@ renew-requires g c =
     record {
       sound = s.sound;
       fits = s.fits;
-      place = used_place s.links c.args.place _ (sym c.show.ensures ∙ c.in-ok-show.was);
+      place = used_place s.links c.args.place _ (sym c.show.ensures ∙ c.in_ok-show.was);
     }
 
-pub invariant-of-self : goal.invariant-of-self
-invariant-of-self g c =
+pub invariant_of-self : goal.invariant_of-self
+invariant_of-self g c =
     let s = c.args.self.now in
     let t = c.renew.ensures in
-    (t.fits, (t.sound, (ap distinct t.orders ∙ distinct-rewritten (held s.links) c.args.place _ _ _ ∙ s.apart, tt)))
+    record { fits = t.fits; sound = t.sound; apart = ap distinct t.orders ∙ distinct-rewritten (held s.links) c.args.place _ _ _ ∙ s.apart }
 
 pub returns : goal.returns
 returns g c =
     let t = c.renew.ensures in
-    let some = sym c.show.ensures ∙ c.in-ok-show.was in
+    let some = sym c.show.ensures ∙ c.in_ok-show.was in
     record { answer = sym (ap (option_map (λ _. tt)) some); orders = t.orders; room = t.room_same }

@@ -6,5 +6,5 @@ slot-slot-requires c = record { inside = inside c.args.self.now c.requires.sound
 
 pub returns : goal.returns
 returns c =
-    let e = c.renew-slot.ensures in
-    after_renew c.args.self.now c.renew-slot.new.self c.requires.sound c.args.place _ _ _ _ c.requires.fits c.requires.place c.slot-slot.ensures.slot e.slots e.used e.head e.free
+    let e = c.renew_slot.ensures in
+    after_renew c.args.self.now c.renew_slot.new.self c.requires.sound c.args.place _ _ _ _ c.requires.fits c.requires.place c.slot-slot.ensures.slot e.slots e.used e.head e.free

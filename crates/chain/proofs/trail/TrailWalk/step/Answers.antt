@@ -6,16 +6,16 @@ use Rattle.chain.proofs.trail.TrailWalk.step.Goals as goal
 here : (c : goal.Else-self-eq0) → c.args.self.now.at < length c.args.self.now.links.now
 here c = let w = c.args.self.now in (starts w.links.now w.left w.at w.inside (omega (arith, c.if-self-eq0.false))).1
 
-pub offset-bounds-self-self : goal.offset-bounds-self-self
-offset-bounds-self-self c = let h = here c in search rules
+pub offset_bounds-self-self : goal.offset_bounds-self-self
+offset_bounds-self-self c = let h = here c in search rules
 
 pub bounds-self-self : goal.bounds-self-self
 bounds-self-self c = here c
 
-pub invariant-of-self : goal.invariant-of-self
-invariant-of-self c =
+pub invariant_of-self : goal.invariant_of-self
+invariant_of-self c =
     let w = c.args.self.now in
-    (inside_next w.links.now w.left w.at w.inside (omega (arith, c.if-self-eq0.false)), tt)
+    record { inside = inside_next w.links.now w.left w.at w.inside (omega (arith, c.if-self-eq0.false)) }
 
 pub returns : goal.returns
 returns c =

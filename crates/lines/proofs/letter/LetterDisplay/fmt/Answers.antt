@@ -19,10 +19,10 @@ ascii_digit c d e small =
 in_hex : (c d b : ℕ) → c ≡ digit_glyph false (b / 16) → d ≡ digit_glyph false (b % 16) → b < 256 → printable b ≡ false → 92 ∷ 120 ∷ (encode c ++ encode d) ≡ letter_text b
 in_hex c d b high low byte p = rw (ascii_digit c (b / 16) high (omega arith), ascii_digit d (b % 16) low (omega arith)) (grind (arith, nat_tests))
 
-pub returns-then-is-printable-clause-writes : goal.returns-then-is-printable-clause-writes
-returns-then-is-printable-clause-writes g c = rw (as_itself _ _ c.from.ensures (sym c.if-is-printable.ensures)) at c.write.ensures.writes
+pub returns-then-is_printable-clause-writes : goal.returns-then-is_printable-clause-writes
+returns-then-is_printable-clause-writes g c = rw (as_itself _ _ c.from.ensures (sym c.if-is_printable.ensures)) at c.write.ensures.writes
 
 pub returns-clause-writes : goal.returns-clause-writes
 returns-clause-writes g c =
     let byte : c.args.self.now.0 < 256 = omega arith in
-    rw (in_hex _ _ _ c.hex-digit.ensures c.hex-digit-2.ensures byte (sym c.if-is-printable.ensures)) at c.write-2.ensures.writes
+    rw (in_hex _ _ _ c.hex_digit.ensures c.hex_digit-2.ensures byte (sym c.if-is_printable.ensures)) at c.write-2.ensures.writes
