@@ -1,5 +1,6 @@
 // The desk reads a member's stream from standard input and prints every record of it in clear.
 #![tactic(auto)]
+
 mod arguments;
 mod listing;
 

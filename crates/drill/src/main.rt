@@ -1,5 +1,6 @@
 // The drill runs the same scripts of calls on a row and on a chain, and prints what they answer.
 #![tactic(auto)]
+
 mod scripts;
 mod text;
 

@@ -9,7 +9,7 @@ returns-then-words-gt1 c = more_words _ c.args.words.now (omega arith)
 pub returns-in-Some : goal.returns-in-Some
 returns-in-Some c =
     let item = c.in-Some.ensures.item in
-    c.parse-word.ensures ∙ ap asked_by c.as-str.ensures.value
+    c.parse_word.ensures ∙ ap asked_by c.as_str.ensures.value
     ∙ one_word _ c.args.words.now _ (omega (arith, item.3.0)) item.1
 
 pub returns-in-None : goal.returns-in-None

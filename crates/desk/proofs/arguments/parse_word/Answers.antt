@@ -10,5 +10,5 @@ neither w a b =
     let q = bytes_eq-Decides w (codes "--help") in
     grind (arith, nat_tests)
 
-pub returns-in-default : goal.returns-in-default
-returns-in-default c = neither _ c.in-default.not-text c.in-default.not-text-2
+pub returns-in_default : goal.returns-in_default
+returns-in_default c = neither _ c.in_default.not-text c.in_default.not-text-2

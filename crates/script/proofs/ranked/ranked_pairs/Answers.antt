@@ -7,7 +7,7 @@ pub loop-answer-preserved : goal.loop-answer-preserved
 loop-answer-preserved g c =
     let l = c.loop-answer in
     let m = pairs_more g.R.Rank.before c.args.answers.now l.answer-index l.count l.last Done _ _ _
-    c.loop-answer-test.true c.order-of-order.ensures c.follows.ensures c.from-count.ensures in
+    c.loop-answer-test.true c.order_of-order.ensures c.follows.ensures c.from-count.ensures in
     (omega (arith, m.0, l.invariant.0), omega (arith, m.1, l.invariant.1))
 
 pub returns : goal.returns

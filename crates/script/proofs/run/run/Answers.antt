@@ -13,7 +13,7 @@ loop-step-preserved g c =
     let xs = g.S.Shelf.orders l.shelf in
     let same = l.invariant.2 in
     let step = get_or script l.step-index (Put 0 0) in
-    let e = c.in_ok-go-on.ensures in
+    let e = c.in_ok-go_on.ensures in
     let stepped = e.orders ∙ ap (λ n. after before n step xs) same in
     let answered = e.answers ∙ ap (λ n. vec_items l.answers ++ answer_of n step xs ∷ []) same in (
       answers_more before room script l.step-index (Put 0 0) xs _ c.loop-step-test.true stepped (vec_items l.answers) _ answered ∙ l.invariant.0,
