@@ -1,6 +1,6 @@
 -- What the words ask for, by how many they are. Assumes nothing.
 use Rattle.std.proofs.Common.{◌≡◌, ℕ, ◌≤◌, List, [], ◌∷◌, map, length, get_or, refl, ap, arith}
-use Rattle.desk.specs.Arguments.{Asked, for, too_many, asked, asked_by}
+use Rattle.desk.specs.Arguments.{for, too_many, asked, asked_by}
 use Rattle.desk.specs.declared.arguments.Request.TheVariants.{Listing}
 
 module _ {X : Type 0} (text : X → List ℕ) where

@@ -1,6 +1,7 @@
 // Editions: the rule as a text prints it. What an edition names and answers, the laws that it keeps,
 // and the two texts.
 #![tactic(auto)]
+
 pub mod common;
 pub mod constants;
 pub mod cut;

@@ -6,7 +6,7 @@
 --     whole n i l          the n bytes behind the mark as an item, or a refusal if the record is cut short
 --     front l              what stands at the front of l: an item, the end, or why there is neither
 --     advance a            the bytes that an answer uses up
-use Rattle.std.specs.Prelude.{ℕ, ◌+◌, Bool, cond, ◌&&◌, List, [], ◌∷◌, length, take, drop, Some, None, Ok, Err, codes, sum, Option, Result, ◌==◌, nat_le, slice_index}
+use Rattle.std.specs.Prelude.{ℕ, ◌+◌, Bool, cond, ◌&&◌, List, length, take, drop, Some, None, Ok, Err, codes, sum, Option, Result, ◌==◌, nat_le, slice_index}
 use Prim.Native.String.{String}
 use Rattle.orders.specs.declared.refusal.Reason.{Reason}
 use Rattle.orders.specs.declared.refusal.Reason.TheVariants.{UnknownMark, CutShort}

@@ -1,4 +1,4 @@
-use Rattle.std.proofs.Common.{◌+◌, ◌≤◌, ◌∙◌, arith}
+use Rattle.std.proofs.Common.{◌∙◌, arith}
 use Rattle.desk.proofs.Steps.{start, one_more, farther, finished}
 use Rattle.desk.proofs.listing.list.Goals as goal
 

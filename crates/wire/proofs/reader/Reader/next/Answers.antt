@@ -1,4 +1,4 @@
-use Rattle.std.proofs.Common.{ℕ, ◌≤◌, List, length, drop, ap, arith, length-drop, rules}
+use Rattle.std.proofs.Common.{ℕ, ◌≤◌, List, length, ap, arith, length-drop, rules}
 use Rattle.std.proofs.lemmas.Bool.Decides.{nat_tests}
 use Rattle.wire.specs.Stream.{front, advance}
 use Rattle.wire.proofs.reader.Reader.next.Goals as goal
