@@ -1,7 +1,7 @@
 -- A chain's slots with its first order and its first free slot. Assumes nothing.
 --     held t                    the orders by place
 --     room t                    the number of slots
---     StaysInside t                  the trail of its orders stays among the slots
+--     StaysInside t             the trail of its orders stays among the slots
 --     Sound t                   no slot is lost and none is used twice
 --     slot t p                  the slot of the order at place p
 --     shown t p                 the order at place p, if there is one

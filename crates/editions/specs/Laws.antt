@@ -1,15 +1,15 @@
 -- The laws that every edition keeps; nothing more is known of one. Assumes nothing.
---     LimitIsFree t           1. L admits every fill from 1 to the balance
---     WholeIsAdmitted t       2. every kind admits the whole balance
---     LargerIsAdmitted t      3. whoever admits a fill admits each larger one up to the balance
---     LeftOnlyNarrows t       4. a balance left after an admitted fill is L, or keeps its kind and admits
---                                  nothing that it did not admit before
---     RangeLiesBetween t      5. with V above 0, low is at most high, and both lie from the V-th selling
---                                  price to the V-th buying price
---     Lawful t                  all five, and no other
---     TrueCut c                what is so of every cut of two sides in rank order behind the bonds that
---                               trade: the V-th prices meet; a next price is no better than the V-th of its
---                               side; where there are both next prices, they do not meet
+--     LimitIsFree t         1. L admits every fill from 1 to the balance
+--     WholeIsAdmitted t     2. every kind admits the whole balance
+--     LargerIsAdmitted t    3. whoever admits a fill admits each larger one up to the balance
+--     LeftOnlyNarrows t     4. a balance left after an admitted fill is L, or keeps its kind and admits
+--                              nothing that it did not admit before
+--     RangeLiesBetween t    5. with V above 0, low is at most high, and both lie from the V-th selling
+--                              price to the V-th buying price
+--     Lawful t              all five, and no other
+--     TrueCut c             what is so of every cut of two sides in rank order behind the bonds that
+--                           trade: the V-th prices meet; a next price is no better than the V-th of its
+--                           side; where there are both next prices, they do not meet
 -- A balance is at least 1. Nothing says that an admitted fill is, or that it is at most the balance.
 use Rattle.std.specs.Prelude.{◌≡◌, ℕ, ◌-◌, ◌<◌, ◌≤◌, true, ◌⊎◌, Some}
 use Rattle.orders.specs.declared.kind.Kind.TheVariants.{Limit}

@@ -3,8 +3,8 @@
 --     designation_fits k x d  an entry of kind k and time in force x may ask for the sessions d, if any
 --     Says e x                the checked entry x says what the entry e says
 --     Fits t x                x is an entry that an edition with the text t has
---     ExactlyFitting t       an entry is taken exactly as a checked entry that says the same and fits
---     RefusedByField t      a refusal of form is of the layer Form, and its place is the number of a field
+--     ExactlyFitting t        an entry is taken exactly as a checked entry that says the same and fits
+--     RefusedByField t        a refusal of form is of the layer Form, and its place is the number of a field
 use Rattle.std.specs.Prelude.{◌≡◌, ℕ, Bool, true, ◌&&◌, Some, None, Ok, Err, Option, nat_le}
 use Rattle.orders.specs.Letters.{kind_letter, side_letter, time_letter}
 use Rattle.orders.specs.Phases.{designation_of}

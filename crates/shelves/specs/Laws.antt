@@ -1,6 +1,6 @@
 -- What every put, take and write keeps of a shelf's list, whatever the rank. Assumes nothing.
---     KeepsRank before         a list in rank order stays in rank order
---     KeepsDistinct before     a list of distinct serials stays one
+--     KeepsRank before          a list in rank order stays in rank order
+--     KeepsDistinct before      a list of distinct serials stays one
 --     Finds                     what a search for a serial tells
 --     In x xs                   the order x stands on the list xs
 --     Iff A B                   A holds exactly if B does

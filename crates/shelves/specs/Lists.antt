@@ -9,7 +9,7 @@
 --     renewed o b k m          o with the balance b, the kind k and the minimum m
 --     rewritten xs i b k m     xs with these for the order at place i, if there is one
 --     nobody                   an order to read past the end of a list
--- A take leaves `removed xs i`, of the standard library: xs without the order at place i, if there is one.
+-- A take leaves `remove xs i`, of the standard library: xs without the order at place i, if there is one.
 use Rattle.std.specs.Prelude.{ℕ, suc, Bool, true, false, cond, not, ◌&&◌, ◌||◌, List, [], ◌∷◌, Some, None, Option, ◌==◌, slice_index_or, slice_set}
 use Rattle.std.specs.List.{insert}
 use Rattle.std.specs.Option.{option_map}
