@@ -1,6 +1,6 @@
 -- Who is on a shelf's list after a put, a take and a write. Assumes nothing.
 use Rattle.std.proofs.Common.{◌≡◌, ℕ, zero, suc, ◌+◌, ◌<◌, Bool, true, not, eqb, ◌⊎◌, List, [], ◌∷◌, length, get_or, take, drop, set, Some, sum_by, sym, refl, ap, ◌∙◌, subst, inl, inr, ⊎_elim, arith}
-use Rattle.std.specs.List.{slice_get, insert, remove, AllByRecursion as All}
+use Rattle.std.specs.List.{slice_get, insert, remove, AllByRecursion}
 use Rattle.std.proofs.ByRecursion.{All-append, All-drop, All-take}
 use Rattle.std.proofs.lemmas.List.Sums.{sum_by-append, sum_by-cons, sum_by-set, sum_by-take-drop}
 use Rattle.std.proofs.lemmas.Bool.{and_parts, both_ways, eq-eqb, not-true, or_left, or_right}
@@ -13,10 +13,10 @@ use Rattle.shelves.proofs.Keeping.{stands}
 
 -- what holds of every member
 module _ (P : Order → Type 0) where
-  pub all_inserted : (xs : List Order) (i : ℕ) (o : Order) → P o → All P xs → All P (insert xs i o)
+  pub all_inserted : (xs : List Order) (i : ℕ) (o : Order) → P o → AllByRecursion P xs → AllByRecursion P (insert xs i o)
   all_inserted xs i o p h = All-append P (take i xs) (o ∷ drop i xs) (All-take P i xs h) (p, All-drop P i xs h)
 
-  pub all_removed : (xs : List Order) (i : ℕ) → All P xs → All P (remove xs i)
+  pub all_removed : (xs : List Order) (i : ℕ) → AllByRecursion P xs → AllByRecursion P (remove xs i)
   all_removed xs i h = All-append P (take i xs) (drop (suc i) xs) (All-take P i xs h) (All-drop P (suc i) xs h)
 
 -- an order that stands on a list of distinct serials is told from the others by its serial
