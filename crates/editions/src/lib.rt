@@ -6,6 +6,5 @@ pub mod common;
 pub mod constants;
 pub mod cut;
 pub mod edition;
-pub mod terms;
 pub mod text2006;
 pub mod text2016;

@@ -5,7 +5,8 @@
 --     reason_number r, layer r      the parts of its row
 --     reason_field r       the field of the entry that a check of form is about, the member being field 1; 0 for other reasons
 --     direct r             the refusal of a direct call for a reason: its place is the reason's field
-use Rattle.std.specs.Prelude.{ℕ, List, [], ◌∷◌}
+--     refusal_text r       what a refusal prints, as ASCII codes: its number, layer and place
+use Rattle.std.specs.Prelude.{ℕ, List, [], ◌∷◌, ◌++◌, codes, decimal}
 use Rattle.orders.specs.declared.refusal.Layer.{Layer}
 use Rattle.orders.specs.declared.refusal.Layer.TheVariants.{Reader, Form, Board}
 use Rattle.orders.specs.declared.refusal.Reason.{Reason}
@@ -105,3 +106,9 @@ reason_field ReportTooShort = 0
 
 abbrev pub direct : Reason → Refusal
 direct r = record { reason = r; place = reason_field r }
+
+abbrev pub refusal_text : Refusal → List ℕ
+refusal_text r =
+    codes "refused " ++ decimal (reason_number r.reason)
+    ++ codes ", layer " ++ decimal (layer_number (layer r.reason))
+    ++ codes ", place " ++ decimal r.place

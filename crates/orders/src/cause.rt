@@ -1,7 +1,8 @@
 // Why an order left the board other than by a fill.
-ghost use Rattle.std.specs.Prelude.{◌≡◌, Some};
-ghost use Rattle.orders.specs.Codes.{named};
+ghost use Rattle.orders.specs.Codes.{Decodes, Encodes};
 ghost use Rattle.orders.specs.Letters.{cause_letter, causes};
+
+use crate::code::UnknownCode;
 
 #[derive(Clone, Copy, PartialEq, Eq, Debug)]
 pub enum Cause {
@@ -13,28 +14,31 @@ pub enum Cause {
     Killed,
 }
 
-impl Cause {
-    // The cause's letter in a report.
-    pub fn letter(self) -> u8
-        ensures value { result ≡ cause_letter self }
-        ensures back { named cause_letter causes result ≡ Some self }
-    {
-        match self {
+// The cause's letter in a report.
+impl From<Cause> for u8 {
+    ghost from_gives = { Encodes cause_letter causes };
+
+    fn from(cause: Cause) -> u8 {
+        match cause {
             Cause::Cancelled => b'C',
             Cause::Ended => b'E',
             Cause::Killed => b'K',
         }
     }
+}
 
-    // The cause that a letter names, if it names one.
-    pub fn from_letter(letter: u8) -> Option<Cause>
-        ensures { result ≡ named cause_letter causes letter }
-    {
+// The cause that a letter names.
+impl TryFrom<u8> for Cause {
+    type Error = UnknownCode;
+
+    ghost try_from_gives = { Decodes cause_letter causes };
+
+    fn try_from(letter: u8) -> Result<Cause, UnknownCode> {
         match letter {
-            b'C' => Some(Cause::Cancelled),
-            b'E' => Some(Cause::Ended),
-            b'K' => Some(Cause::Killed),
-            _ => None,
+            b'C' => Ok(Cause::Cancelled),
+            b'E' => Ok(Cause::Ended),
+            b'K' => Ok(Cause::Killed),
+            code => Err(UnknownCode { code }),
         }
     }
 }

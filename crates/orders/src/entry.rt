@@ -1,4 +1,5 @@
-// What a member sends, as it stands on the wire: numbers and letters that nobody has checked yet.
+// What a member sends, as it stands on the wire: numbers and letters that nobody has checked yet. They
+// are bytes, since a check refuses a wrong one by its field.
 #[derive(Clone, Copy, PartialEq, Eq, Debug)]
 pub struct Entry {
     pub member: u32,

@@ -1,7 +1,8 @@
 // The kind of an order: which sizes it may trade in.
-ghost use Rattle.std.specs.Prelude.{◌≡◌, Some};
-ghost use Rattle.orders.specs.Codes.{named};
+ghost use Rattle.orders.specs.Codes.{Decodes, Encodes};
 ghost use Rattle.orders.specs.Letters.{kind_letter, kinds};
+
+use crate::code::UnknownCode;
 
 #[derive(Clone, Copy, PartialEq, Eq, Debug)]
 pub enum Kind {
@@ -12,30 +13,33 @@ pub enum Kind {
     FillOrKill,
 }
 
-impl Kind {
-    // The kind's letter on the wire.
-    pub fn letter(self) -> u8
-        ensures value { result ≡ kind_letter self }
-        ensures back { named kind_letter kinds result ≡ Some self }
-    {
-        match self {
+// The kind's letter on the wire.
+impl From<Kind> for u8 {
+    ghost from_gives = { Encodes kind_letter kinds };
+
+    fn from(kind: Kind) -> u8 {
+        match kind {
             Kind::Limit => b'L',
             Kind::AllOrNone => b'A',
             Kind::MinimumQuantity => b'M',
             Kind::FillOrKill => b'F',
         }
     }
+}
 
-    // The kind that a letter names, if it names one.
-    pub fn from_letter(letter: u8) -> Option<Kind>
-        ensures { result ≡ named kind_letter kinds letter }
-    {
+// The kind that a letter names.
+impl TryFrom<u8> for Kind {
+    type Error = UnknownCode;
+
+    ghost try_from_gives = { Decodes kind_letter kinds };
+
+    fn try_from(letter: u8) -> Result<Kind, UnknownCode> {
         match letter {
-            b'L' => Some(Kind::Limit),
-            b'A' => Some(Kind::AllOrNone),
-            b'M' => Some(Kind::MinimumQuantity),
-            b'F' => Some(Kind::FillOrKill),
-            _ => None,
+            b'L' => Ok(Kind::Limit),
+            b'A' => Ok(Kind::AllOrNone),
+            b'M' => Ok(Kind::MinimumQuantity),
+            b'F' => Ok(Kind::FillOrKill),
+            code => Err(UnknownCode { code }),
         }
     }
 }

@@ -2,6 +2,7 @@
 #![tactic(auto)]
 
 pub mod cause;
+pub mod code;
 pub mod entry;
 pub mod kind;
 pub mod order;
@@ -10,4 +11,5 @@ pub mod refusal;
 pub mod report;
 pub mod sessions;
 pub mod side;
+pub mod terms;
 pub mod time;

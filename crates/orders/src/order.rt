@@ -1,7 +1,7 @@
 // A live order: it rests on the bid or the offer shelf, or waits.
-use crate::kind::Kind;
 use crate::sessions::Sessions;
 use crate::side::Side;
+use crate::terms::Terms;
 use crate::time::TimeInForce;
 
 #[derive(Clone, Copy, PartialEq, Eq, Debug)]
@@ -13,11 +13,10 @@ pub struct Order {
     pub price: u32,
     // What is neither filled nor gone.
     pub balance: u32,
-    pub kind: Kind,
-    // The smallest fill of a minimum-quantity order, else 0.
-    pub minimum: u32,
+    pub terms: Terms,
     pub time: TimeInForce,
     pub sessions: Sessions,
-    // The last day of a good-till-date order, else 0.
+    // The last day of a good-till-date order, else 0. It is no part of the time, which a letter names
+    // without it.
     pub date: u32,
 }

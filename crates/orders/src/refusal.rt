@@ -1,64 +1,68 @@
 // Why a call was refused: the reason, with its number and layer, and the place that it is about.
 ghost use Rattle.std.specs.Prelude.{◌≡◌, Some};
-ghost use Rattle.orders.specs.Codes.{named};
-ghost use Rattle.orders.specs.Refusals.{direct, layer, layer_number, layers, reason_field, reason_number, reasons};
+ghost use Rattle.orders.specs.Codes.{Decodes, Encodes};
+ghost use Rattle.orders.specs.Refusals.{direct, layer, layer_number, layers, reason_field, reason_number, reasons, refusal_text};
+
+use crate::code::UnknownCode;
+use std::error::Error;
+use std::fmt;
 
 // Which part of the engine checks: the reader of the wire, the form of an entry, or the board.
 #[derive(Clone, Copy, PartialEq, Eq, Debug)]
 pub enum Layer {
-    Reader,
-    Form,
-    Board,
+    Reader = 1,
+    Form = 2,
+    Board = 3,
 }
 
 #[derive(Clone, Copy, PartialEq, Eq, Debug)]
 pub enum Reason {
     // Making: the reference price is outside 1 to 1,000,000.
-    ReferenceOutOfRange,
+    ReferenceOutOfRange = 1,
     // Making: the capacity is outside 1 to 4,096.
-    CapacityOutOfRange,
+    CapacityOutOfRange = 2,
     // Making: a shelf is not empty, or has fewer places than the capacity.
-    ShelfUnfit,
+    ShelfUnfit = 3,
     // Take: one byte is left, or the mark is unknown.
-    UnknownMark,
+    UnknownMark = 4,
     // Take: the record is cut short.
-    CutShort,
+    CutShort = 5,
     // The side is neither letter.
-    UnknownSide,
+    UnknownSide = 6,
     // The price is outside 1 to 1,000,000.
-    PriceOutOfRange,
+    PriceOutOfRange = 7,
     // The quantity is outside 1 to 1,000,000.
-    QuantityOutOfRange,
+    QuantityOutOfRange = 8,
     // The kind is not in the edition.
-    KindNotAllowed,
+    KindNotAllowed = 9,
     // The minimum is 0 or above the quantity for M, or not 0 for others.
-    MinimumNotAllowed,
+    MinimumNotAllowed = 10,
     // The time letter is not in the edition, or not D for F.
-    TimeNotAllowed,
+    TimeNotAllowed = 11,
     // The designation is above 7, or not 0 for C, G or F.
-    DesignationNotAllowed,
+    DesignationNotAllowed = 12,
     // The date is not 0 without G.
-    DateNotAllowed,
+    DateNotAllowed = 13,
     // Enter: the phase is Closed.
-    MarketClosed,
+    MarketClosed = 14,
     // Enter: F in Queue.
-    FillOrKillInQueue,
+    FillOrKillInQueue = 15,
     // Enter: a G date before today, or no session of the entry runs or is to come today.
-    NoSessionAhead,
+    NoSessionAhead = 16,
     // Enter: a price too far beyond the best resting order of the other side.
-    OutsideCollar,
+    OutsideCollar = 17,
     // Enter: as many orders are live as the capacity.
-    BoardFull,
+    BoardFull = 18,
     // Enter: the next serial is the largest 64-bit number.
-    SerialsExhausted,
+    SerialsExhausted = 19,
     // Cancel: no live order has the serial.
-    NoSuchOrder,
+    NoSuchOrder = 20,
     // Cancel: the order is another member's.
-    NotOwner,
+    NotOwner = 21,
     // Turn: Closed on the largest day.
-    DaysExhausted,
+    DaysExhausted = 22,
     // Enter, cancel, turn: fewer report places than live orders plus one.
-    ReportTooShort,
+    ReportTooShort = 23,
 }
 
 #[derive(Clone, Copy, PartialEq, Eq, Debug)]
@@ -69,98 +73,77 @@ pub struct Refusal {
     pub place: usize,
 }
 
-impl Layer {
-    // The layer's number in a refusal.
-    pub fn number(self) -> u8
-        ensures value { result ≡ layer_number self }
-        ensures back { named layer_number layers result ≡ Some self }
-    {
-        match self {
-            Layer::Reader => 1,
-            Layer::Form => 2,
-            Layer::Board => 3,
+// The layer's number in a refusal.
+impl From<Layer> for u8 {
+    ghost from_gives = { Encodes layer_number layers };
+
+    fn from(layer: Layer) -> u8 {
+        layer as u8
+    }
+}
+
+// The layer that a number names.
+impl TryFrom<u8> for Layer {
+    type Error = UnknownCode;
+
+    ghost try_from_gives = { Decodes layer_number layers };
+
+    fn try_from(number: u8) -> Result<Layer, UnknownCode> {
+        match number {
+            1 => Ok(Layer::Reader),
+            2 => Ok(Layer::Form),
+            3 => Ok(Layer::Board),
+            code => Err(UnknownCode { code }),
         }
     }
+}
 
-    // The layer that a number names, if it names one.
-    pub fn from_number(number: u8) -> Option<Layer>
-        ensures { result ≡ named layer_number layers number }
-    {
+// The number of the reason, which no other reason has.
+impl From<Reason> for u8 {
+    ghost from_gives = { Encodes reason_number reasons };
+
+    fn from(reason: Reason) -> u8 {
+        reason as u8
+    }
+}
+
+// The reason that a number names.
+impl TryFrom<u8> for Reason {
+    type Error = UnknownCode;
+
+    ghost try_from_gives = { Decodes reason_number reasons };
+
+    fn try_from(number: u8) -> Result<Reason, UnknownCode> {
         match number {
-            1 => Some(Layer::Reader),
-            2 => Some(Layer::Form),
-            3 => Some(Layer::Board),
-            _ => None,
+            1 => Ok(Reason::ReferenceOutOfRange),
+            2 => Ok(Reason::CapacityOutOfRange),
+            3 => Ok(Reason::ShelfUnfit),
+            4 => Ok(Reason::UnknownMark),
+            5 => Ok(Reason::CutShort),
+            6 => Ok(Reason::UnknownSide),
+            7 => Ok(Reason::PriceOutOfRange),
+            8 => Ok(Reason::QuantityOutOfRange),
+            9 => Ok(Reason::KindNotAllowed),
+            10 => Ok(Reason::MinimumNotAllowed),
+            11 => Ok(Reason::TimeNotAllowed),
+            12 => Ok(Reason::DesignationNotAllowed),
+            13 => Ok(Reason::DateNotAllowed),
+            14 => Ok(Reason::MarketClosed),
+            15 => Ok(Reason::FillOrKillInQueue),
+            16 => Ok(Reason::NoSessionAhead),
+            17 => Ok(Reason::OutsideCollar),
+            18 => Ok(Reason::BoardFull),
+            19 => Ok(Reason::SerialsExhausted),
+            20 => Ok(Reason::NoSuchOrder),
+            21 => Ok(Reason::NotOwner),
+            22 => Ok(Reason::DaysExhausted),
+            23 => Ok(Reason::ReportTooShort),
+            code => Err(UnknownCode { code }),
         }
     }
 }
 
 impl Reason {
-    // The number of the reason, which no other reason has.
-    pub fn number(self) -> u8
-        ensures value { result ≡ reason_number self }
-        ensures back { named reason_number reasons result ≡ Some self }
-        ensures apart { (other : Reason) → reason_number other ≡ result → other ≡ self }
-    {
-        match self {
-            Reason::ReferenceOutOfRange => 1,
-            Reason::CapacityOutOfRange => 2,
-            Reason::ShelfUnfit => 3,
-            Reason::UnknownMark => 4,
-            Reason::CutShort => 5,
-            Reason::UnknownSide => 6,
-            Reason::PriceOutOfRange => 7,
-            Reason::QuantityOutOfRange => 8,
-            Reason::KindNotAllowed => 9,
-            Reason::MinimumNotAllowed => 10,
-            Reason::TimeNotAllowed => 11,
-            Reason::DesignationNotAllowed => 12,
-            Reason::DateNotAllowed => 13,
-            Reason::MarketClosed => 14,
-            Reason::FillOrKillInQueue => 15,
-            Reason::NoSessionAhead => 16,
-            Reason::OutsideCollar => 17,
-            Reason::BoardFull => 18,
-            Reason::SerialsExhausted => 19,
-            Reason::NoSuchOrder => 20,
-            Reason::NotOwner => 21,
-            Reason::DaysExhausted => 22,
-            Reason::ReportTooShort => 23,
-        }
-    }
-
-    // The reason that a number names, if it names one.
-    pub fn from_number(number: u8) -> Option<Reason>
-        ensures { result ≡ named reason_number reasons number }
-    {
-        match number {
-            1 => Some(Reason::ReferenceOutOfRange),
-            2 => Some(Reason::CapacityOutOfRange),
-            3 => Some(Reason::ShelfUnfit),
-            4 => Some(Reason::UnknownMark),
-            5 => Some(Reason::CutShort),
-            6 => Some(Reason::UnknownSide),
-            7 => Some(Reason::PriceOutOfRange),
-            8 => Some(Reason::QuantityOutOfRange),
-            9 => Some(Reason::KindNotAllowed),
-            10 => Some(Reason::MinimumNotAllowed),
-            11 => Some(Reason::TimeNotAllowed),
-            12 => Some(Reason::DesignationNotAllowed),
-            13 => Some(Reason::DateNotAllowed),
-            14 => Some(Reason::MarketClosed),
-            15 => Some(Reason::FillOrKillInQueue),
-            16 => Some(Reason::NoSessionAhead),
-            17 => Some(Reason::OutsideCollar),
-            18 => Some(Reason::BoardFull),
-            19 => Some(Reason::SerialsExhausted),
-            20 => Some(Reason::NoSuchOrder),
-            21 => Some(Reason::NotOwner),
-            22 => Some(Reason::DaysExhausted),
-            23 => Some(Reason::ReportTooShort),
-            _ => None,
-        }
-    }
-
     // The layer that checks for the reason.
     pub fn layer(self) -> Layer
         ensures { result ≡ layer self }
@@ -179,8 +162,8 @@ impl Reason {
         }
     }
 
-    // The number of the entry's field that a check of form is about, the member being field 1; 0
-    // for other reasons.
+    // The number of the entry's field that a check of form is about, the member being field 1; for
+    // other reasons 0, which is then the place: no Option, as it would only be unwrapped to that 0.
     pub fn field(self) -> usize
         ensures { result ≡ reason_field self }
     {
@@ -209,3 +192,17 @@ impl Refusal {
         }
     }
 }
+
+// Its number, its layer and its place.
+impl fmt::Display for Refusal {
+    ghost output = { λ r. Some (refusal_text r) };
+
+    fn fmt<W: fmt::Write>(&self, f: &mut fmt::Formatter<W>) -> fmt::Result {
+        let number = u8::from(self.reason);
+        let layer = u8::from(self.reason.layer());
+        let place = self.place;
+        write!(f, "refused {number}, layer {layer}, place {place}")
+    }
+}
+
+impl Error for Refusal {}

@@ -1,7 +1,8 @@
 // The sessions of a day in which an order may trade.
-ghost use Rattle.std.specs.Prelude.{◌≡◌, Some};
-ghost use Rattle.orders.specs.Codes.{named};
+ghost use Rattle.orders.specs.Codes.{Decodes, Encodes};
 ghost use Rattle.orders.specs.Phases.{all_sessions, designation_of};
+
+use crate::code::UnknownCode;
 
 #[derive(Clone, Copy, PartialEq, Eq, Debug)]
 pub struct Sessions {
@@ -10,23 +11,26 @@ pub struct Sessions {
     pub late: bool,
 }
 
-impl Sessions {
-    // The designation of these sessions: 1 for Opening, 2 for Core and 4 for Late, added up.
-    pub fn designation(self) -> u8
-        ensures value { result ≡ designation_of self }
-        ensures back { named designation_of all_sessions result ≡ Some self }
-    {
-        u8::from(self.opening) + 2 * u8::from(self.core) + 4 * u8::from(self.late)
-    }
+// The designation of these sessions: 1 for Opening, 2 for Core and 4 for Late, added up.
+impl From<Sessions> for u8 {
+    ghost from_gives = { Encodes designation_of all_sessions };
 
-    // The sessions of a designation, if it is at most 7.
-    pub fn from_designation(designation: u8) -> Option<Sessions>
-        ensures { result ≡ named designation_of all_sessions designation }
-    {
+    fn from(sessions: Sessions) -> u8 {
+        u8::from(sessions.opening) + 2 * u8::from(sessions.core) + 4 * u8::from(sessions.late)
+    }
+}
+
+// The sessions of a designation, which is at most 7.
+impl TryFrom<u8> for Sessions {
+    type Error = UnknownCode;
+
+    ghost try_from_gives = { Decodes designation_of all_sessions };
+
+    fn try_from(designation: u8) -> Result<Sessions, UnknownCode> {
         if designation > 7 {
-            return None;
+            return Err(UnknownCode { code: designation });
         }
-        Some(Sessions {
+        Ok(Sessions {
             opening: designation % 2 == 1,
             core: designation / 2 % 2 == 1,
             late: designation / 4 == 1,

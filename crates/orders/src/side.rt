@@ -1,7 +1,8 @@
 // The side of an order.
-ghost use Rattle.std.specs.Prelude.{◌≡◌, Some};
-ghost use Rattle.orders.specs.Codes.{named};
+ghost use Rattle.orders.specs.Codes.{Decodes, Encodes};
 ghost use Rattle.orders.specs.Letters.{side_letter, sides};
+
+use crate::code::UnknownCode;
 
 #[derive(Clone, Copy, PartialEq, Eq, Debug)]
 pub enum Side {
@@ -9,26 +10,29 @@ pub enum Side {
     Sell,
 }
 
-impl Side {
-    // The side's letter on the wire.
-    pub fn letter(self) -> u8
-        ensures value { result ≡ side_letter self }
-        ensures back { named side_letter sides result ≡ Some self }
-    {
-        match self {
+// The side's letter on the wire.
+impl From<Side> for u8 {
+    ghost from_gives = { Encodes side_letter sides };
+
+    fn from(side: Side) -> u8 {
+        match side {
             Side::Buy => b'B',
             Side::Sell => b'S',
         }
     }
+}
 
-    // The side that a letter names, if it names one.
-    pub fn from_letter(letter: u8) -> Option<Side>
-        ensures { result ≡ named side_letter sides letter }
-    {
+// The side that a letter names.
+impl TryFrom<u8> for Side {
+    type Error = UnknownCode;
+
+    ghost try_from_gives = { Decodes side_letter sides };
+
+    fn try_from(letter: u8) -> Result<Side, UnknownCode> {
         match letter {
-            b'B' => Some(Side::Buy),
-            b'S' => Some(Side::Sell),
-            _ => None,
+            b'B' => Ok(Side::Buy),
+            b'S' => Ok(Side::Sell),
+            code => Err(UnknownCode { code }),
         }
     }
 }

@@ -1,7 +1,8 @@
 // The time in force of an order: how long it stays live.
-ghost use Rattle.std.specs.Prelude.{◌≡◌, Some};
-ghost use Rattle.orders.specs.Codes.{named};
+ghost use Rattle.orders.specs.Codes.{Decodes, Encodes};
 ghost use Rattle.orders.specs.Letters.{time_letter, times};
+
+use crate::code::UnknownCode;
 
 #[derive(Clone, Copy, PartialEq, Eq, Debug)]
 pub enum TimeInForce {
@@ -10,28 +11,31 @@ pub enum TimeInForce {
     GoodTillDate,
 }
 
-impl TimeInForce {
-    // The time's letter on the wire.
-    pub fn letter(self) -> u8
-        ensures value { result ≡ time_letter self }
-        ensures back { named time_letter times result ≡ Some self }
-    {
-        match self {
+// The time's letter on the wire.
+impl From<TimeInForce> for u8 {
+    ghost from_gives = { Encodes time_letter times };
+
+    fn from(time: TimeInForce) -> u8 {
+        match time {
             TimeInForce::Day => b'D',
             TimeInForce::GoodTillCancelled => b'C',
             TimeInForce::GoodTillDate => b'G',
         }
     }
+}
 
-    // The time in force that a letter names, if it names one.
-    pub fn from_letter(letter: u8) -> Option<TimeInForce>
-        ensures { result ≡ named time_letter times letter }
-    {
+// The time in force that a letter names.
+impl TryFrom<u8> for TimeInForce {
+    type Error = UnknownCode;
+
+    ghost try_from_gives = { Decodes time_letter times };
+
+    fn try_from(letter: u8) -> Result<TimeInForce, UnknownCode> {
         match letter {
-            b'D' => Some(TimeInForce::Day),
-            b'C' => Some(TimeInForce::GoodTillCancelled),
-            b'G' => Some(TimeInForce::GoodTillDate),
-            _ => None,
+            b'D' => Ok(TimeInForce::Day),
+            b'C' => Ok(TimeInForce::GoodTillCancelled),
+            b'G' => Ok(TimeInForce::GoodTillDate),
+            code => Err(UnknownCode { code }),
         }
     }
 }

@@ -4,8 +4,8 @@ use Rattle.std.specs.List.{slice_get, insert, remove}
 use Rattle.std.proofs.lemmas.List.{append-nil, drop_all, set_past, take_all}
 use Rattle.std.proofs.lemmas.Bool.{and_parts, eqb-false, not-true, or_parts}
 use Rattle.std.proofs.lemmas.Bool.Decides.{nat_tests}
-use Rattle.orders.specs.declared.kind.Kind.{Kind}
 use Rattle.orders.specs.declared.order.Order.{Order}
+use Rattle.orders.specs.declared.terms.Terms.{Terms}
 use Rattle.shelves.specs.Laws.{KeepsDistinct, KeepsRank}
 use Rattle.shelves.specs.Lists.{distinct, has, leads, nobody, place_in, placed, ranked, renewed, rewritten}
 use Rattle.shelves.specs.Ranks.{Ranking, Standing, standing}
@@ -27,19 +27,19 @@ removed-none xs i e =
     let h = past xs i e in
     sym (rw (take_all i xs h, drop_all (suc i) xs (omega arith)) (append-nil xs))
 
-pub rewritten-none : (xs : List Order) (i b : ℕ) (k : Kind) (m : ℕ) → slice_get xs i ≡ None → xs ≡ rewritten xs i b k m
-rewritten-none xs i b k m e = sym (set_past xs i _ (past xs i e))
+pub rewritten-none : (xs : List Order) (i b : ℕ) (t : Terms) → slice_get xs i ≡ None → xs ≡ rewritten xs i b t
+rewritten-none xs i b t e = sym (set_past xs i _ (past xs i e))
 
 -- serials after a write
-pub has-rewritten : (n : ℕ) (xs : List Order) (i b : ℕ) (k : Kind) (m : ℕ) → has n (rewritten xs i b k m) ≡ has n xs
-has-rewritten n [] i b k m = refl
-has-rewritten n (x ∷ xs) zero b k m = refl
-has-rewritten n (x ∷ xs) (suc i) b k m = ap (λ t. eqb x.serial n || t) (has-rewritten n xs i b k m)
+pub has-rewritten : (n : ℕ) (xs : List Order) (i b : ℕ) (t : Terms) → has n (rewritten xs i b t) ≡ has n xs
+has-rewritten n [] i b t = refl
+has-rewritten n (x ∷ xs) zero b t = refl
+has-rewritten n (x ∷ xs) (suc i) b t = ap (λ t. eqb x.serial n || t) (has-rewritten n xs i b t)
 
-pub distinct-rewritten : (xs : List Order) (i b : ℕ) (k : Kind) (m : ℕ) → distinct (rewritten xs i b k m) ≡ distinct xs
-distinct-rewritten [] i b k m = refl
-distinct-rewritten (x ∷ xs) zero b k m = refl
-distinct-rewritten (x ∷ xs) (suc i) b k m = rw (has-rewritten x.serial xs i b k m, distinct-rewritten xs i b k m)
+pub distinct-rewritten : (xs : List Order) (i b : ℕ) (t : Terms) → distinct (rewritten xs i b t) ≡ distinct xs
+distinct-rewritten [] i b t = refl
+distinct-rewritten (x ∷ xs) zero b t = refl
+distinct-rewritten (x ∷ xs) (suc i) b t = rw (has-rewritten x.serial xs i b t, distinct-rewritten xs i b t)
 
 -- serials after a put
 pub has-inserted : (n : ℕ) (xs : List Order) (i : ℕ) (o : Order) → has n (insert xs i o) ≡ (eqb o.serial n || has n xs)
@@ -84,7 +84,7 @@ pub keeps_distinct : (before : Standing → Standing → Bool) → KeepsDistinct
 keeps_distinct before = record {
   put = λ o xs. distinct-inserted xs (place_in before o xs) o;
   take = distinct-removed;
-  write = λ xs i b k m d. distinct-rewritten xs i b k m ∙ d;
+  write = λ xs i b t d. distinct-rewritten xs i b t ∙ d;
 }
 
 -- rank order after a take and after a write
@@ -105,19 +105,19 @@ module _ (before : Standing → Standing → Bool) where
       let hs = and_parts (leads before x xs) (ranked before xs) h in
       rw (leads-removed x xs i hs.0, ranked-removed xs i hs.1)
 
-  leads-rewritten : (x : Order) (xs : List Order) (i b : ℕ) (k : Kind) (m : ℕ) → leads before x (rewritten xs i b k m) ≡ leads before x xs
-  leads-rewritten x [] i b k m = refl
-  leads-rewritten x (y ∷ ys) zero b k m = refl
-  leads-rewritten x (y ∷ ys) (suc i) b k m = ap (λ t. before (standing x) (standing y) && t) (leads-rewritten x ys i b k m)
+  leads-rewritten : (x : Order) (xs : List Order) (i b : ℕ) (t : Terms) → leads before x (rewritten xs i b t) ≡ leads before x xs
+  leads-rewritten x [] i b t = refl
+  leads-rewritten x (y ∷ ys) zero b t = refl
+  leads-rewritten x (y ∷ ys) (suc i) b t = ap (λ t. before (standing x) (standing y) && t) (leads-rewritten x ys i b t)
 
-  leads-renewed : (o : Order) (b : ℕ) (k : Kind) (m : ℕ) (xs : List Order) → leads before (renewed o b k m) xs ≡ leads before o xs
-  leads-renewed o b k m [] = refl
-  leads-renewed o b k m (x ∷ xs) = ap (λ t. before (standing o) (standing x) && t) (leads-renewed o b k m xs)
+  leads-renewed : (o : Order) (b : ℕ) (t : Terms) (xs : List Order) → leads before (renewed o b t) xs ≡ leads before o xs
+  leads-renewed o b t [] = refl
+  leads-renewed o b t (x ∷ xs) = ap (λ t. before (standing o) (standing x) && t) (leads-renewed o b t xs)
 
-  pub ranked-rewritten : (xs : List Order) (i b : ℕ) (k : Kind) (m : ℕ) → ranked before (rewritten xs i b k m) ≡ ranked before xs
-  ranked-rewritten [] i b k m = refl
-  ranked-rewritten (x ∷ xs) zero b k m = ap (λ t. t && ranked before xs) (leads-renewed x b k m xs)
-  ranked-rewritten (x ∷ xs) (suc i) b k m = rw (leads-rewritten x xs i b k m, ranked-rewritten xs i b k m)
+  pub ranked-rewritten : (xs : List Order) (i b : ℕ) (t : Terms) → ranked before (rewritten xs i b t) ≡ ranked before xs
+  ranked-rewritten [] i b t = refl
+  ranked-rewritten (x ∷ xs) zero b t = ap (λ t. t && ranked before xs) (leads-renewed x b t xs)
+  ranked-rewritten (x ∷ xs) (suc i) b t = rw (leads-rewritten x xs i b t, ranked-rewritten xs i b t)
 
 -- rank order after a put
 module _ {before : Standing → Standing → Bool} (r : Ranking before) where
@@ -152,5 +152,5 @@ module _ {before : Standing → Standing → Bool} (r : Ranking before) where
   keeps_rank = record {
     put = ranked-placed;
     take = ranked-removed before;
-    write = λ xs i b k m h. ranked-rewritten before xs i b k m ∙ h;
+    write = λ xs i b t h. ranked-rewritten before xs i b t ∙ h;
   }

@@ -4,8 +4,8 @@ use Rattle.std.specs.List.{slice_get, insert, remove, AllByRecursion}
 use Rattle.std.proofs.ByRecursion.{All-append, All-drop, All-take}
 use Rattle.std.proofs.lemmas.List.Sums.{sum_by-append, sum_by-cons, sum_by-set, sum_by-take-drop}
 use Rattle.std.proofs.lemmas.Bool.{and_parts, both_ways, eq-eqb, not-true, or_left, or_right}
-use Rattle.orders.specs.declared.kind.Kind.{Kind}
 use Rattle.orders.specs.declared.order.Order.{Order}
+use Rattle.orders.specs.declared.terms.Terms.{Terms}
 use Rattle.shelves.specs.Laws.{In, Members, Other, Totals}
 use Rattle.shelves.specs.Lists.{distinct, has, nobody, place_in, renewed, rewritten}
 use Rattle.shelves.specs.Ranks.{Standing}
@@ -71,18 +71,18 @@ rewritten_as [] i y h = absurd (omega arith)
 rewritten_as (x ∷ xs) zero y h = refl
 rewritten_as (x ∷ xs) (suc i) y h = ap (λ t. x ∷ t) (rewritten_as xs i y (omega arith))
 
-written : (o : Order) (xs : List Order) (i b : ℕ) (k : Kind) (m : ℕ) → slice_get xs i ≡ Some o → rewritten xs i b k m ≡ insert (remove xs i) i (renewed o b k m)
-written o xs i b k m e =
+written : (o : Order) (xs : List Order) (i b : ℕ) (t : Terms) → slice_get xs i ≡ Some o → rewritten xs i b t ≡ insert (remove xs i) i (renewed o b t)
+written o xs i b t e =
     let s = stands xs i o e in
-    rewritten_as xs i _ s.0 ∙ ap (λ y. insert (remove xs i) i (renewed y b k m)) s.1
+    rewritten_as xs i _ s.0 ∙ ap (λ y. insert (remove xs i) i (renewed y b t)) s.1
 
 pub members : (before : Standing → Standing → Bool) → Members before
 members before = record {
   put = λ o x xs. (in-inserted x o xs (place_in before o xs), inserted-in x o xs (place_in before o xs));
   take = λ o x xs i d e. (in-removed x o xs i d e, removed-in x o xs i e);
-  write = λ o x xs i b k m d e.
-      let new = renewed o b k m in
-      let same = written o xs i b k m e in (
+  write = λ o x xs i b t d e.
+      let new = renewed o b t in
+      let same = written o xs i b t e in (
         (λ h. ⊎_elim inl (λ n. inr (in-removed x o xs i d e n)) (in-inserted x new (remove xs i) i (subst (In x) same h))),
         (λ h. subst (In x) (sym same) (inserted-in x new (remove xs i) i (⊎_elim inl (λ n. inr (removed-in x o xs i e n)) h))),
       );
@@ -105,13 +105,13 @@ module _ (f : Order → ℕ) where
       let s = sum-removed o xs i e in
       omega arith
 
-  pub sum-rewritten : (o : Order) (xs : List Order) (i b : ℕ) (k : Kind) (m : ℕ) → slice_get xs i ≡ Some o →
-      f o + sum_by f (rewritten xs i b k m) ≡ f (renewed o b k m) + sum_by f xs
-  sum-rewritten o xs i b k m e =
+  pub sum-rewritten : (o : Order) (xs : List Order) (i b : ℕ) (t : Terms) → slice_get xs i ≡ Some o →
+      f o + sum_by f (rewritten xs i b t) ≡ f (renewed o b t) + sum_by f xs
+  sum-rewritten o xs i b t e =
       let s = stands xs i o e in
-      let t = sum_by-set f xs i (renewed (get_or xs i nobody) b k m) nobody s.0 in
+      let w = sum_by-set f xs i (renewed (get_or xs i nobody) b t) nobody s.0 in
       let u = ap f s.1 in
-      let v = ap (λ y. f (renewed y b k m)) s.1 in
+      let v = ap (λ y. f (renewed y b t)) s.1 in
       omega arith
 
 pub totals : (before : Standing → Standing → Bool) → Totals before

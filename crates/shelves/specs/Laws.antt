@@ -9,20 +9,20 @@
 -- A put is of an order whose serial is not there; a take and a write are of a place where an order stands.
 use Rattle.std.specs.Prelude.{◌≡◌, ℕ, ◌+◌, Bool, true, false, ◌⊎◌, List, [], ◌∷◌, is_some, Some, sum_by, ◌≢◌}
 use Rattle.std.specs.List.{slice_get, remove}
-use Rattle.orders.specs.declared.kind.Kind.{Kind}
 use Rattle.orders.specs.declared.order.Order.{Order}
+use Rattle.orders.specs.declared.terms.Terms.{Terms}
 use Rattle.shelves.specs.Lists.{distinct, has, place_of, placed, ranked, renewed, rewritten}
 use Rattle.shelves.specs.Ranks.{Standing}
 
 pub record KeepsRank (before : Standing → Standing → Bool) : Type 0 where
   pub put : (o : Order) (xs : List Order) → has o.serial xs ≡ false → ranked before xs ≡ true → ranked before (placed before o xs) ≡ true
   pub take : (xs : List Order) (i : ℕ) → ranked before xs ≡ true → ranked before (remove xs i) ≡ true
-  pub write : (xs : List Order) (i b : ℕ) (k : Kind) (m : ℕ) → ranked before xs ≡ true → ranked before (rewritten xs i b k m) ≡ true
+  pub write : (xs : List Order) (i b : ℕ) (t : Terms) → ranked before xs ≡ true → ranked before (rewritten xs i b t) ≡ true
 
 pub record KeepsDistinct (before : Standing → Standing → Bool) : Type 0 where
   pub put : (o : Order) (xs : List Order) → has o.serial xs ≡ false → distinct xs ≡ true → distinct (placed before o xs) ≡ true
   pub take : (xs : List Order) (i : ℕ) → distinct xs ≡ true → distinct (remove xs i) ≡ true
-  pub write : (xs : List Order) (i b : ℕ) (k : Kind) (m : ℕ) → distinct xs ≡ true → distinct (rewritten xs i b k m) ≡ true
+  pub write : (xs : List Order) (i b : ℕ) (t : Terms) → distinct xs ≡ true → distinct (rewritten xs i b t) ≡ true
 
 pub record Finds : Type 0 where
   pub absent : (n : ℕ) (xs : List Order) → is_some (place_of n xs) ≡ has n xs
@@ -42,11 +42,11 @@ Other o x xs = In x xs × (x.serial ≢ o.serial)
 pub record Members (before : Standing → Standing → Bool) : Type 0 where
   pub put : (o x : Order) (xs : List Order) → Iff (In x (placed before o xs)) ((x ≡ o) ⊎ In x xs)
   pub take : (o x : Order) (xs : List Order) (i : ℕ) → distinct xs ≡ true → slice_get xs i ≡ Some o → Iff (In x (remove xs i)) (Other o x xs)
-  pub write : (o x : Order) (xs : List Order) (i b : ℕ) (k : Kind) (m : ℕ) → distinct xs ≡ true → slice_get xs i ≡ Some o →
-      Iff (In x (rewritten xs i b k m)) ((x ≡ renewed o b k m) ⊎ Other o x xs)
+  pub write : (o x : Order) (xs : List Order) (i b : ℕ) (t : Terms) → distinct xs ≡ true → slice_get xs i ≡ Some o →
+      Iff (In x (rewritten xs i b t)) ((x ≡ renewed o b t) ⊎ Other o x xs)
 
 pub record Totals (before : Standing → Standing → Bool) : Type 0 where
   pub put : (f : Order → ℕ) (o : Order) (xs : List Order) → sum_by f (placed before o xs) ≡ f o + sum_by f xs
   pub take : (f : Order → ℕ) (o : Order) (xs : List Order) (i : ℕ) → slice_get xs i ≡ Some o → f o + sum_by f (remove xs i) ≡ sum_by f xs
-  pub write : (f : Order → ℕ) (o : Order) (xs : List Order) (i b : ℕ) (k : Kind) (m : ℕ) → slice_get xs i ≡ Some o →
-      f o + sum_by f (rewritten xs i b k m) ≡ f (renewed o b k m) + sum_by f xs
+  pub write : (f : Order → ℕ) (o : Order) (xs : List Order) (i b : ℕ) (t : Terms) → slice_get xs i ≡ Some o →
+      f o + sum_by f (rewritten xs i b t) ≡ f (renewed o b t) + sum_by f xs

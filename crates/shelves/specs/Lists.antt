@@ -6,18 +6,18 @@
 --     ranked before xs         each order of xs comes before all behind it
 --     place_in before o xs     the place of a new order o: behind all in front that come before it
 --     placed before o xs       xs with o at that place
---     renewed o b k m          o with the balance b, the kind k and the minimum m
---     rewritten xs i b k m     xs with these for the order at place i, if there is one
+--     renewed o b t            o with the balance b on the terms t
+--     rewritten xs i b t       xs with these for the order at place i, if there is one
 --     nobody                   an order to read past the end of a list
 -- A take leaves `remove xs i`, of the standard library: xs without the order at place i, if there is one.
 use Rattle.std.specs.Prelude.{ℕ, suc, Bool, true, false, cond, not, ◌&&◌, ◌||◌, List, [], ◌∷◌, Some, None, Option, ◌==◌, slice_index_or, slice_set}
 use Rattle.std.specs.List.{insert}
 use Rattle.std.specs.Option.{option_map}
 use Rattle.orders.specs.Phases.{session_set}
-use Rattle.orders.specs.declared.kind.Kind.{Kind}
 use Rattle.orders.specs.declared.kind.Kind.TheVariants.{Limit}
 use Rattle.orders.specs.declared.order.Order.{Order}
 use Rattle.orders.specs.declared.side.Side.TheVariants.{Buy}
+use Rattle.orders.specs.declared.terms.Terms.{Terms}
 use Rattle.orders.specs.declared.time.TimeInForce.TheVariants.{Day}
 use Rattle.shelves.specs.Ranks.{Standing, standing}
 
@@ -49,15 +49,14 @@ module _ (before : Standing → Standing → Bool) where
   abbrev pub placed : Order → List Order → List Order
   placed o xs = insert xs (place_in o xs) o
 
-abbrev pub renewed : Order → ℕ → Kind → ℕ → Order
-renewed o b k m = record {
+abbrev pub renewed : Order → ℕ → Terms → Order
+renewed o b t = record {
   serial = o.serial;
   member = o.member;
   side = o.side;
   price = o.price;
   balance = b;
-  kind = k;
-  minimum = m;
+  terms = t;
   time = o.time;
   sessions = o.sessions;
   date = o.date;
@@ -70,12 +69,11 @@ nobody = record {
   side = Buy;
   price = 0;
   balance = 0;
-  kind = Limit;
-  minimum = 0;
+  terms = record { kind = Limit; minimum = 0 };
   time = Day;
   sessions = session_set false false false;
   date = 0;
 }
 
-abbrev pub rewritten : List Order → ℕ → ℕ → Kind → ℕ → List Order
-rewritten xs i b k m = slice_set xs i (renewed (slice_index_or xs i nobody) b k m)
+abbrev pub rewritten : List Order → ℕ → ℕ → Terms → List Order
+rewritten xs i b t = slice_set xs i (renewed (slice_index_or xs i nobody) b t)

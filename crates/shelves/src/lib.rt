@@ -4,4 +4,5 @@
 pub mod laws;
 pub mod rank;
 pub mod shelf;
+pub mod slots;
 pub mod walk;

@@ -8,8 +8,8 @@ ghost use Rattle.shelves.specs.Lists.{distinct, place_of, rewritten};
 ghost use Rattle.shelves.specs.Puts.{after_put, put_answer, put_check};
 
 use crate::rank::Rank;
-use orders::kind::Kind;
 use orders::order::Order;
+use orders::terms::Terms;
 
 // Why a shelf does not take an order.
 #[derive(Clone, Copy, PartialEq, Eq, Debug)]
@@ -59,10 +59,10 @@ pub trait Shelf<R: Rank> {
         ensures orders { orders self.new ≡ remove (orders self.old) place }
         ensures room { room self.new ≡ room self.old };
 
-    // Gives the order at a place a new balance, kind and minimum.
-    fn write(&mut self, place: usize, balance: u32, kind: Kind, minimum: u32) -> Option<()>
+    // Gives the order at a place a new balance and new terms.
+    fn write(&mut self, place: usize, balance: u32, terms: Terms) -> Option<()>
         ensures answer { result ≡ option_map (λ _. tt) (slice_get (orders self.old) place) }
-        ensures orders { orders self.new ≡ rewritten (orders self.old) place balance kind minimum }
+        ensures orders { orders self.new ≡ rewritten (orders self.old) place balance terms }
         ensures room { room self.new ≡ room self.old };
 }
 
