@@ -3,6 +3,6 @@
 
 pub mod laws;
 pub mod rank;
+pub mod ranked;
 pub mod shelf;
 pub mod slots;
-pub mod walk;

@@ -1,0 +1,70 @@
+// What the slots of a row do.
+ghost use Rattle.std.specs.Prelude.{◌≡◌, length};
+ghost use Rattle.row.specs.Packed.{front, front_within, room};
+
+use super::Packed;
+use orders::order::Order;
+use orders::terms::Terms;
+use shelves::slots::Slots;
+
+impl<'a> Packed<'a> {
+    fn orders(&self) -> &[Order]
+        ensures { result.now ≡ front self.now }
+    {
+        &self.at[..self.used]
+    }
+}
+
+impl<'a> Slots for Packed<'a> {
+    type Memory = &'a mut [Order];
+
+    ghost size = { λ m. length m.now };
+
+    ghost orders = { front };
+
+    ghost room = { room };
+
+    ghost fits = { λ s. front_within s };
+
+    fn new(at: &'a mut [Order]) -> Packed<'a> {
+        Packed { at, used: 0 }
+    }
+
+    fn count(&self) -> usize {
+        self.orders().len()
+    }
+
+    fn room(&self) -> usize {
+        self.at.len()
+    }
+
+    fn get(&self, place: usize) -> Option<Order> {
+        self.orders().get(place).copied()
+    }
+
+    fn position<T: Fn(&Order) -> bool>(&self, test: T) -> Option<usize> {
+        self.orders().iter().position(&test)
+    }
+
+    // Moves what stands from `place` on one slot up.
+    fn insert(&mut self, place: usize, new: Order) {
+        self.at.copy_within(place..self.used, place + 1);
+        self.at[place] = new;
+        self.used += 1;
+    }
+
+    // Moves what stands behind `place` one slot down.
+    fn remove(&mut self, place: usize) {
+        self.at.copy_within(place + 1..self.used, place);
+        self.used -= 1;
+    }
+
+    fn renew(&mut self, place: usize, balance: u32, terms: Terms) {
+        let old = self.at[place];
+        self.at[place] = Order {
+            balance,
+            terms,
+            ..old
+        };
+    }
+}
