@@ -1,5 +1,6 @@
 // The scripts of the drill.
 use orders::kind::Kind;
+use orders::terms::Terms;
 use script::step::Step;
 use std::alloc::{AllocError, Global};
 
@@ -10,8 +11,10 @@ pub const MIXED: [Step; 40] = [
     Step::Write {
         place: 0,
         balance: 60,
-        kind: Kind::Limit,
-        minimum: 0,
+        terms: Terms {
+            kind: Kind::Limit,
+            minimum: 0,
+        },
     },
     Step::Find(7),
     Step::Put {
@@ -48,14 +51,18 @@ pub const MIXED: [Step; 40] = [
     Step::Write {
         place: 1,
         balance: 40,
-        kind: Kind::MinimumQuantity,
-        minimum: 20,
+        terms: Terms {
+            kind: Kind::MinimumQuantity,
+            minimum: 20,
+        },
     },
     Step::Write {
         place: 4,
         balance: 40,
-        kind: Kind::Limit,
-        minimum: 0,
+        terms: Terms {
+            kind: Kind::Limit,
+            minimum: 0,
+        },
     },
     Step::Show(0),
     Step::Show(1),
@@ -121,14 +128,18 @@ pub const PROBE: [Step; 17] = [
     Step::Write {
         place: 2047,
         balance: 1,
-        kind: Kind::AllOrNone,
-        minimum: 0,
+        terms: Terms {
+            kind: Kind::AllOrNone,
+            minimum: 0,
+        },
     },
     Step::Write {
         place: 4096,
         balance: 1,
-        kind: Kind::AllOrNone,
-        minimum: 0,
+        terms: Terms {
+            kind: Kind::AllOrNone,
+            minimum: 0,
+        },
     },
     Step::Take(4096),
     Step::Take(2047),
@@ -149,13 +160,10 @@ pub const PROBE: [Step; 17] = [
 
 // A put for each place, of serials from 0 on in a mixed order, at 97 prices.
 pub fn filled(heap: Global, places: u32) -> Result<Vec<Step>, AllocError> {
-    let mut script = Vec::new(heap);
-    for i in 0..places {
-        let serial = u64::from(i) * 2711 % 4096;
-        script.push(Step::Put {
-            serial,
+    (0..places)
+        .map(|i| Step::Put {
+            serial: u64::from(i) * 2711 % 4096,
             price: 100_000 + i % 97,
-        })?;
-    }
-    Ok(script)
+        })
+        .collect(heap)
 }

@@ -1,11 +1,13 @@
 // Steps and answers as text.
+use orders::terms::Terms;
 use script::step::{Answer, Step};
-use shelves::shelf::PutRefusal;
 use std::fmt;
 
+// A type of this crate, as a step is another crate's.
 #[derive(Clone, Copy)]
 pub struct StepText(pub Step);
 
+// Likewise for an answer.
 #[derive(Clone, Copy)]
 pub struct AnswerText(pub Answer);
 
@@ -17,8 +19,7 @@ impl fmt::Display for StepText {
             Step::Write {
                 place,
                 balance,
-                kind,
-                minimum,
+                terms: Terms { kind, minimum },
             } => {
                 write!(
                     f,
@@ -34,16 +35,18 @@ impl fmt::Display for StepText {
 impl fmt::Display for AnswerText {
     fn fmt<W: fmt::Write>(&self, f: &mut fmt::Formatter<W>) -> fmt::Result {
         match self.0 {
-            Answer::Done => write!(f, "done"),
-            Answer::Refused(PutRefusal::Full) => write!(f, "refused, every place is used"),
-            Answer::Refused(PutRefusal::SerialHeld) => write!(f, "refused, the serial is there"),
-            Answer::Shown(order) => write!(
+            Answer::Placed(Ok(())) | Answer::Written(Some(())) => write!(f, "done"),
+            Answer::Placed(Err(refusal)) => write!(f, "refused, {refusal}"),
+            Answer::Taken(Some(order)) | Answer::Shown(Some(order)) => write!(
                 f,
                 "{} at {}, balance {}, {:?}, minimum {}",
-                order.serial, order.price, order.balance, order.kind, order.minimum
+                order.serial, order.price, order.balance, order.terms.kind, order.terms.minimum
             ),
-            Answer::Found(place) => write!(f, "place {place}"),
-            Answer::Nothing => write!(f, "nothing"),
+            Answer::Found(Some(place)) => write!(f, "place {place}"),
+            Answer::Taken(None)
+            | Answer::Written(None)
+            | Answer::Found(None)
+            | Answer::Shown(None) => write!(f, "nothing"),
         }
     }
 }

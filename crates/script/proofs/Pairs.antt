@@ -1,31 +1,22 @@
--- The pairs of answers that lie ahead. Assumes nothing.
-use Rattle.std.proofs.Common.{◌≡◌, ℕ, ◌+◌, ◌<◌, ◌≤◌, Bool, true, false, cond, List, length, get_or, drop, Option, sym, refl, ap, ◌∙◌, arith}
-use mir.Val.{bool_byte}
-use Rattle.std.proofs.lemmas.List.{at_drop_all, at_drop_more}
-use Rattle.orders.specs.declared.order.Order.{Order}
+-- Pairs of answers that follow one another. Assumes nothing.
+use Rattle.std.proofs.Common.{◌≡◌, ◌+◌, Bool, cond, List, [], ◌∷◌, drop, None, refl, ap, ◌∙◌, sym, arith}
+use Rattle.std.specs.List.{count_by, zip}
+use Rattle.std.proofs.lemmas.List.Sums.{sum_by-cons}
 use Rattle.script.specs.declared.step.Answer.{Answer}
 use Rattle.script.specs.Ranked.{follows, order_of, ranked_pairs}
 use Rattle.shelves.specs.Ranks.{Standing}
 
-at_most_one : (t : Bool) → cond t 1 0 ≤ 1
-at_most_one true = omega arith
-at_most_one false = omega arith
+module _ (before : Standing → Standing → Bool) where
+  -- whether the second of two answers shows an order behind the first's
+  abbrev pub follow : Answer × Answer → Bool
+  follow p = follows before (order_of p.0) (order_of p.1)
 
-one_if : (t : Bool) → bool_byte t ≡ cond t 1 0
-one_if true = refl
-one_if false = refl
+  behind : (a : Answer) (as' : List Answer) → ranked_pairs before (order_of a) as' ≡ count_by follow (zip (a ∷ as') as')
+  behind a [] = refl
+  behind a (b ∷ bs) =
+      ap (λ n. cond (follow (a, b)) 1 0 + n) (behind b bs)
+      ∙ sym (sum_by-cons (λ p. cond (follow p) 1 0) (a, b) (zip (b ∷ bs) bs))
 
-module _ (before : Standing → Standing → Bool) (answers : List Answer) (i n : ℕ) (p : Option Order) where
-  pub pairs_more : (d : Answer) (q : Option Order) (t : Bool) (k : ℕ) → i < length answers → q ≡ order_of (get_or answers i d) → t ≡ follows before p q → k ≡ bool_byte t →
-      (n + k + ranked_pairs before q (drop (i + 1) answers) ≡ n + ranked_pairs before p (drop i answers)) × (k ≤ 1)
-  pairs_more d q t k h order test one =
-      let ahead : ranked_pairs before p (drop i answers) ≡ cond (follows before p (order_of (get_or answers i d))) 1 0 + ranked_pairs before (order_of (get_or answers i d)) (drop (i + 1) answers) =
-      at_drop_more (ranked_pairs before p) answers i d h in
-      let now : ranked_pairs before p (drop i answers) ≡ cond (follows before p q) 1 0 + ranked_pairs before q (drop (i + 1) answers) =
-      ahead ∙ ap (λ o. cond (follows before p o) 1 0 + ranked_pairs before o (drop (i + 1) answers)) (sym order) in
-      let same = one ∙ one_if t ∙ ap (λ b. cond b 1 0) test in
-      let few = at_most_one (follows before p q) in
-      (omega arith, omega arith)
-
-  pub pairs_end : length answers ≤ i → ranked_pairs before p (drop i answers) ≡ 0
-  pairs_end h = at_drop_all (ranked_pairs before p) answers i h
+  pub pairs_zipped : (as' : List Answer) → ranked_pairs before None as' ≡ count_by follow (zip as' (drop 1 as'))
+  pairs_zipped [] = refl
+  pairs_zipped (a ∷ as') = omega (arith, behind a as')

@@ -6,15 +6,15 @@
 use Rattle.std.specs.Prelude.{ℕ, ◌+◌, Bool, false, cond, List, [], ◌∷◌, Some, None, Option}
 use Rattle.orders.specs.declared.order.Order.{Order}
 use Rattle.script.specs.declared.step.Answer.{Answer}
-use Rattle.script.specs.declared.step.Answer.TheVariants.{Done, Refused, Shown, Found, Nothing}
+use Rattle.script.specs.declared.step.Answer.TheVariants.{Placed, Taken, Written, Found, Shown}
 use Rattle.shelves.specs.Ranks.{Standing, standing}
 
 abbrev pub order_of : Answer → Option Order
-order_of Done = None
-order_of (Refused r) = None
-order_of (Shown o) = Some o
+order_of (Placed r) = None
+order_of (Taken o) = o
+order_of (Written r) = None
 order_of (Found i) = None
-order_of Nothing = None
+order_of (Shown o) = o
 
 module _ (before : Standing → Standing → Bool) where
   abbrev pub follows : Option Order → Option Order → Bool

@@ -4,10 +4,11 @@
 --     after before room s xs           the orders that it leaves
 --     answers before room ss xs        the answers to one step after another
 --     after_all before room ss xs      the orders that they leave
-use Rattle.std.specs.Prelude.{ℕ, Bool, true, false, List, [], ◌∷◌, Some, None, Ok, Err, Option, Result}
+use Rattle.std.specs.Prelude.{ℕ, Bool, true, false, List, [], ◌∷◌}
 use Rattle.std.specs.List.{slice_get, remove}
+use Rattle.std.specs.Option.{option_map}
 use Rattle.script.specs.declared.step.Answer.{Answer}
-use Rattle.script.specs.declared.step.Answer.TheVariants.{Done, Refused, Shown, Found, Nothing}
+use Rattle.script.specs.declared.step.Answer.TheVariants.{Placed, Taken, Written, Found, Shown}
 use Rattle.script.specs.declared.step.Step.{Step}
 use Rattle.script.specs.declared.step.Step.TheVariants.{Put, Take, Write, Find, Show}
 use Rattle.orders.specs.Phases.{session_set}
@@ -18,7 +19,6 @@ use Rattle.orders.specs.declared.time.TimeInForce.TheVariants.{Day}
 use Rattle.shelves.specs.Lists.{place_of, rewritten}
 use Rattle.shelves.specs.Puts.{after_put, put_answer}
 use Rattle.shelves.specs.Ranks.{Standing}
-use Rattle.shelves.specs.declared.shelf.PutRefusal.{PutRefusal}
 
 abbrev pub buy : ℕ → ℕ → Order
 buy n p = record {
@@ -27,41 +27,24 @@ buy n p = record {
   side = Buy;
   price = p;
   balance = 100;
-  kind = Limit;
-  minimum = 0;
+  terms = record { kind = Limit; minimum = 0 };
   time = Day;
   sessions = session_set false true false;
   date = 0;
 }
 
-abbrev pub put : Result (Unit {0}) PutRefusal → Answer
-put (Ok u) = Done
-put (Err e) = Refused e
-
-abbrev pub shown : Option Order → Answer
-shown None = Nothing
-shown (Some o) = Shown o
-
-abbrev pub written : Option Order → Answer
-written None = Nothing
-written (Some o) = Done
-
-abbrev pub found : Option ℕ → Answer
-found None = Nothing
-found (Some i) = Found i
-
 abbrev pub answer_of : ℕ → Step → List Order → Answer
-answer_of room (Put n p) xs = put (put_answer room n xs)
-answer_of room (Take i) xs = shown (slice_get xs i)
-answer_of room (Write i b k m) xs = written (slice_get xs i)
-answer_of room (Find n) xs = found (place_of n xs)
-answer_of room (Show i) xs = shown (slice_get xs i)
+answer_of room (Put n p) xs = Placed (put_answer room n xs)
+answer_of room (Take i) xs = Taken (slice_get xs i)
+answer_of room (Write i b t) xs = Written (option_map (λ _. tt) (slice_get xs i))
+answer_of room (Find n) xs = Found (place_of n xs)
+answer_of room (Show i) xs = Shown (slice_get xs i)
 
 module _ (before : Standing → Standing → Bool) (room : ℕ) where
   abbrev pub after : Step → List Order → List Order
   after (Put n p) xs = after_put before (put_answer room n xs) (buy n p) xs
   after (Take i) xs = remove xs i
-  after (Write i b k m) xs = rewritten xs i b k m
+  after (Write i b t) xs = rewritten xs i b t
   after (Find n) xs = xs
   after (Show i) xs = xs
 

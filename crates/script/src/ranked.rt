@@ -10,14 +10,11 @@ use shelves::rank::Rank;
 pub fn ranked_pairs<R: Rank>(answers: &[Answer]) -> usize
     ensures { result ≡ ranked_pairs R.Rank.before None answers.now }
 {
-    let mut last = None;
-    let mut count = 0;
-    for answer in answers {
-        let order = order_of(*answer);
-        count += usize::from(follows::<R>(&last, &order));
-        last = order;
-    }
-    count
+    answers
+        .iter()
+        .zip(answers.iter().skip(1))
+        .filter(|pair| follows::<R>(order_of(*pair.0), order_of(*pair.1)))
+        .count()
 }
 
 // The order that an answer shows.
@@ -25,17 +22,17 @@ fn order_of(answer: Answer) -> Option<Order>
     ensures { result ≡ order_of answer }
 {
     match answer {
-        Answer::Shown(order) => Some(order),
+        Answer::Taken(order) | Answer::Shown(order) => order,
         _ => None,
     }
 }
 
 // Whether both are there, and the first comes before the second.
-fn follows<R: Rank>(first: &Option<Order>, second: &Option<Order>) -> bool
-    ensures { result ≡ follows R.Rank.before first.now second.now }
+fn follows<R: Rank>(first: Option<Order>, second: Option<Order>) -> bool
+    ensures { result ≡ follows R.Rank.before first second }
 {
     match (first, second) {
-        (Some(a), Some(b)) => R::precedes(a, b),
+        (Some(a), Some(b)) => R::precedes(&a, &b),
         _ => false,
     }
 }

@@ -1,15 +1,17 @@
 // One call of a shelf, and what it answered.
 ghost use Rattle.std.specs.Prelude.{◌≡◌};
-ghost use Rattle.script.specs.Steps.{after, answer_of, buy, shown};
+ghost use Rattle.script.specs.Steps.{after, answer_of, buy};
 
 use orders::kind::Kind;
 use orders::order::Order;
 use orders::sessions::Sessions;
 use orders::side::Side;
+use orders::terms::Terms;
 use orders::time::TimeInForce;
 use shelves::rank::Rank;
 use shelves::shelf::{PutRefusal, Shelf};
 
+// Data, and no closure: a script is printed, and runs on shelves of different types.
 #[derive(Clone, Copy)]
 pub enum Step {
     Put {
@@ -20,8 +22,7 @@ pub enum Step {
     Write {
         place: usize,
         balance: u32,
-        kind: Kind,
-        minimum: u32,
+        terms: Terms,
     },
     Find(u64),
     Show(usize),
@@ -29,11 +30,11 @@ pub enum Step {
 
 #[derive(Clone, Copy, PartialEq, Eq, Debug)]
 pub enum Answer {
-    Done,
-    Refused(PutRefusal),
-    Shown(Order),
-    Found(usize),
-    Nothing,
+    Placed(Result<(), PutRefusal>),
+    Taken(Option<Order>),
+    Written(Option<()>),
+    Found(Option<usize>),
+    Shown(Option<Order>),
 }
 
 // An order of member 1 to buy 100 bonds, for the day's Core.
@@ -46,8 +47,10 @@ pub fn order(serial: u64, price: u32) -> Order
         side: Side::Buy,
         price,
         balance: 100,
-        kind: Kind::Limit,
-        minimum: 0,
+        terms: Terms {
+            kind: Kind::Limit,
+            minimum: 0,
+        },
         time: TimeInForce::Day,
         sessions: Sessions {
             opening: false,
@@ -58,15 +61,6 @@ pub fn order(serial: u64, price: u32) -> Order
     }
 }
 
-fn shown(order: Option<Order>) -> Answer
-    ensures { result ≡ shown order }
-{
-    match order {
-        Some(order) => Answer::Shown(order),
-        None => Answer::Nothing,
-    }
-}
-
 // Carries out a step on any shelf.
 pub fn perform<R: Rank, S: Shelf<R>>(shelf: &mut S, step: Step) -> Answer
     ensures answer { result ≡ answer_of (S.Shelf.room shelf.old) step (S.Shelf.orders shelf.old) }
@@ -74,26 +68,14 @@ pub fn perform<R: Rank, S: Shelf<R>>(shelf: &mut S, step: Step) -> Answer
     ensures room { S.Shelf.room shelf.new ≡ S.Shelf.room shelf.old }
 {
     match step {
-        Step::Put { serial, price } => match shelf.put(order(serial, price)) {
-            Ok(()) => Answer::Done,
-            Err(refusal) => Answer::Refused(refusal),
-        },
-        Step::Take(place) => shown(shelf.take(place)),
+        Step::Put { serial, price } => Answer::Placed(shelf.put(order(serial, price))),
+        Step::Take(place) => Answer::Taken(shelf.take(place)),
         Step::Write {
             place,
             balance,
-            kind,
-            minimum,
-        } => {
-            match shelf.write(place, balance, kind, minimum) {
-                Some(()) => Answer::Done,
-                None => Answer::Nothing,
-            }
-        }
-        Step::Find(serial) => match shelf.find(serial) {
-            Some(place) => Answer::Found(place),
-            None => Answer::Nothing,
-        },
-        Step::Show(place) => shown(shelf.show(place)),
+            terms,
+        } => Answer::Written(shelf.write(place, balance, terms)),
+        Step::Find(serial) => Answer::Found(shelf.find(serial)),
+        Step::Show(place) => Answer::Shown(shelf.show(place)),
     }
 }

@@ -1,15 +1,17 @@
 // A shelf holds orders in rank order in a fixed number of places. That list and that number are all
 // that it means.
-ghost use Rattle.std.specs.Prelude.{◌≡◌, ℕ, ◌≤◌, true, List, length, nat_le};
+ghost use Rattle.std.specs.Prelude.{◌≡◌, ℕ, ◌≤◌, true, List, length, nat_le, Some};
 ghost use Rattle.orders.specs.declared.order.Order.{Order};
 ghost use Rattle.std.specs.List.{slice_get, remove};
 ghost use Rattle.std.specs.Option.{option_map};
 ghost use Rattle.shelves.specs.Lists.{distinct, place_of, rewritten};
-ghost use Rattle.shelves.specs.Puts.{after_put, put_answer, put_check};
+ghost use Rattle.shelves.specs.Puts.{after_put, put_answer, put_check, put_refusal_text};
 
 use crate::rank::Rank;
 use orders::order::Order;
 use orders::terms::Terms;
+use std::error::Error;
+use std::fmt;
 
 // Why a shelf does not take an order.
 #[derive(Clone, Copy, PartialEq, Eq, Debug)]
@@ -19,6 +21,19 @@ pub enum PutRefusal {
     // An order with the serial is there.
     SerialHeld,
 }
+
+impl fmt::Display for PutRefusal {
+    ghost output = { λ r. Some (put_refusal_text r) };
+
+    fn fmt<W: fmt::Write>(&self, f: &mut fmt::Formatter<W>) -> fmt::Result {
+        match self {
+            PutRefusal::Full => write!(f, "every place is used"),
+            PutRefusal::SerialHeld => write!(f, "the serial is there"),
+        }
+    }
+}
+
+impl Error for PutRefusal {}
 
 pub trait Shelf<R: Rank> {
     // The orders, by place.
