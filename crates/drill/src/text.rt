@@ -35,7 +35,7 @@ impl fmt::Display for StepText {
 impl fmt::Display for AnswerText {
     fn fmt<W: fmt::Write>(&self, f: &mut fmt::Formatter<W>) -> fmt::Result {
         match self.0 {
-            Answer::Placed(Ok(())) | Answer::Written(Some(())) => write!(f, "done"),
+            Answer::Placed(Ok(())) | Answer::Written(Some(_)) => write!(f, "done"),
             Answer::Placed(Err(refusal)) => write!(f, "refused, {refusal}"),
             Answer::Taken(Some(order)) | Answer::Shown(Some(order)) => write!(
                 f,

@@ -12,7 +12,7 @@ use Rattle.shelves.specs.Ranks.{Standing, standing}
 abbrev pub order_of : Answer → Option Order
 order_of (Placed r) = None
 order_of (Taken o) = o
-order_of (Written r) = None
+order_of (Written o) = None
 order_of (Found i) = None
 order_of (Shown o) = o
 

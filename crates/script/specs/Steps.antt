@@ -6,7 +6,6 @@
 --     after_all before room ss xs      the orders that they leave
 use Rattle.std.specs.Prelude.{ℕ, Bool, true, false, List, [], ◌∷◌}
 use Rattle.std.specs.List.{slice_get, remove}
-use Rattle.std.specs.Option.{option_map}
 use Rattle.script.specs.declared.step.Answer.{Answer}
 use Rattle.script.specs.declared.step.Answer.TheVariants.{Placed, Taken, Written, Found, Shown}
 use Rattle.script.specs.declared.step.Step.{Step}
@@ -36,7 +35,7 @@ buy n p = record {
 abbrev pub answer_of : ℕ → Step → List Order → Answer
 answer_of room (Put n p) xs = Placed (put_answer room n xs)
 answer_of room (Take i) xs = Taken (slice_get xs i)
-answer_of room (Write i b t) xs = Written (option_map (λ _. tt) (slice_get xs i))
+answer_of room (Write i b t) xs = Written (slice_get xs i)
 answer_of room (Find n) xs = Found (place_of n xs)
 answer_of room (Show i) xs = Shown (slice_get xs i)
 

@@ -32,7 +32,7 @@ pub enum Step {
 pub enum Answer {
     Placed(Result<(), PutRefusal>),
     Taken(Option<Order>),
-    Written(Option<()>),
+    Written(Option<Order>),
     Found(Option<usize>),
     Shown(Option<Order>),
 }

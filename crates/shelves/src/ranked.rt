@@ -84,9 +84,9 @@ impl<S: Slots, R: Rank> Shelf<R> for Ranked<S, R> {
         Some(taken)
     }
 
-    fn write(&mut self, place: usize, balance: u32, terms: Terms) -> Option<()> {
-        self.show(place)?;
+    fn write(&mut self, place: usize, balance: u32, terms: Terms) -> Option<Order> {
+        let written = self.show(place)?;
         self.slots.renew(place, balance, terms);
-        Some(())
+        Some(written)
     }
 }

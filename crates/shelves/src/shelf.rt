@@ -3,7 +3,6 @@
 ghost use Rattle.std.specs.Prelude.{◌≡◌, ℕ, ◌≤◌, true, List, length, nat_le, Some};
 ghost use Rattle.orders.specs.declared.order.Order.{Order};
 ghost use Rattle.std.specs.List.{slice_get, remove};
-ghost use Rattle.std.specs.Option.{option_map};
 ghost use Rattle.shelves.specs.Lists.{distinct, place_of, rewritten};
 ghost use Rattle.shelves.specs.Puts.{after_put, put_answer, put_check, put_refusal_text};
 
@@ -74,9 +73,9 @@ pub trait Shelf<R: Rank> {
         ensures orders { orders self.new ≡ remove (orders self.old) place }
         ensures room { room self.new ≡ room self.old };
 
-    // Gives the order at a place a new balance and new terms.
-    fn write(&mut self, place: usize, balance: u32, terms: Terms) -> Option<()>
-        ensures answer { result ≡ option_map (λ _. tt) (slice_get (orders self.old) place) }
+    // Gives the order at a place a new balance and new terms, and answers with the order as it was.
+    fn write(&mut self, place: usize, balance: u32, terms: Terms) -> Option<Order>
+        ensures answer { result ≡ slice_get (orders self.old) place }
         ensures orders { orders self.new ≡ rewritten (orders self.old) place balance terms }
         ensures room { room self.new ≡ room self.old };
 }
