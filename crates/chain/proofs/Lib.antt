@@ -1,3 +1,3 @@
-pub mod Calls
+pub mod Places
 pub mod Moves
 pub mod Trails

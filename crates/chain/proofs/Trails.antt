@@ -1,7 +1,7 @@
 -- Where the links of slots lead. Assumes nothing.
-use Rattle.std.proofs.Common.{◌≡◌, ℕ, zero, suc, ◌+◌, ◌-◌, ◌<◌, ◌≤◌, List, [], ◌∷◌, map, length, get_or, set, sym, refl, ap, ◌∙◌, add-one, arith, length-set, get_or-set_other, get_or-set_same}
+use Rattle.std.proofs.Common.{◌≡◌, ℕ, zero, suc, ◌+◌, ◌-◌, ◌<◌, ◌≤◌, List, [], ◌∷◌, length, get_or, set, sym, refl, ap, ◌∙◌, add-one, arith, length-set, get_or-set_other, get_or-set_same}
 use Rattle.std.specs.List.{insert, remove}
-use Rattle.std.proofs.lemmas.List.{get_or-map, length-map}
+use Rattle.std.proofs.lemmas.List.{get_or-map}
 use Rattle.std.proofs.lemmas.Bool.{eq-eqb}
 use Rattle.orders.specs.declared.order.Order.{Order}
 use Rattle.shelves.specs.Lists.{nobody}
@@ -12,9 +12,6 @@ pub length-trail : (s : List Link) (n i : ℕ) → length (trail s n i) ≡ n
 length-trail s zero i = refl
 length-trail s (suc n) i = ap suc (length-trail s n (next s i))
 
-pub length-along : (s : List Link) (n i : ℕ) → length (along s n i) ≡ n
-length-along s n i = length-map (trail s n i) (order_in s) ∙ length-trail s n i
-
 pub along_at : (s : List Link) (n i p : ℕ) → p < n → get_or (along s n i) p nobody ≡ order_in s (get_or (trail s n i) p 0)
 along_at s n i p h = get_or-map (order_in s) (trail s n i) p 0 nobody (omega (arith, length-trail s n i))
 
@@ -22,12 +19,6 @@ along_at s n i p h = get_or-map (order_in s) (trail s n i) p 0 nobody (omega (ar
 pub trail_first : (s : List Link) (n i : ℕ) → 0 < n → trail s n i ≡ i ∷ trail s (n - 1) (next s i)
 trail_first s zero i h = absurd (omega arith)
 trail_first s (suc n) i h = let e : suc n - 1 ≡ n = omega arith in ap (λ m. i ∷ trail s m (next s i)) (sym e)
-
-pub along_first : (s : List Link) (n i : ℕ) → 0 < n → along s n i ≡ order_in s i ∷ along s (n - 1) (next s i)
-along_first s n i h = ap (map (order_in s)) (trail_first s n i h)
-
-pub along-none : (s : List Link) (n i : ℕ) → n ≡ 0 → along s n i ≡ []
-along-none s n i e = ap (λ m. along s m i) e
 
 follows_suc : (s : List Link) (n i p : ℕ) → suc p < n → get_or (trail s n i) (suc p) 0 ≡ next s (get_or (trail s n i) p 0)
 follows_suc s zero i p h = absurd (omega arith)
@@ -45,11 +36,6 @@ module _ (s : List Link) (n i : ℕ) (inside : Inside s n i) where
   starts h =
       let e : i ≡ get_or (trail s n i) 0 0 = ap (λ t. get_or t 0 0) (sym (trail_first s n i h)) in
       (e, omega (arith, inside 0 h, e))
-
-  pub goes : (k p : ℕ) → p + 1 < n → k ≡ get_or (trail s n i) p 0 → (next s k ≡ get_or (trail s n i) (p + 1) 0) × (next s k < length s)
-  goes k p h e =
-      let there : next s k ≡ get_or (trail s n i) (p + 1) 0 = ap (next s) e ∙ sym (follows s n i p h) in
-      (there, omega (arith, inside (p + 1) h, there))
 
   pub inside_next : 0 < n → Inside s (n - 1) (next s i)
   inside_next h p l =

@@ -9,7 +9,8 @@
 --     Inside s n i      that trail stays among the slots
 --     Parted s n h f    each slot stands exactly once on one of two trails, that of the n used ones from h
 --                       on and that of the free ones from f on, and no other number stands there
-use Rattle.std.specs.Prelude.{◌≡◌, ℕ, zero, suc, ◌+◌, ◌-◌, ◌<◌, cond, List, [], ◌∷◌, map, length, ◌==◌, nat_lt, slice_index, slice_index_or}
+use Rattle.std.specs.Prelude.{◌≡◌, ℕ, zero, suc, ◌+◌, ◌-◌, ◌<◌, ◌≤◌, cond, List, [], ◌∷◌, map, length, ◌==◌, nat_lt, slice_index, slice_index_or}
+use Rattle.std.proofs.Common.{refl, ap, arith}
 use Rattle.orders.specs.declared.order.Order.{Order}
 use Rattle.shelves.specs.Lists.{nobody}
 use Rattle.chain.specs.declared.link.Link.{Link}
@@ -42,3 +43,10 @@ Inside s n i = (p : ℕ) → p < n → slice_index (trail s n i) p < length s
 
 abbrev pub Parted : List Link → ℕ → ℕ → ℕ → Type 0
 Parted s n h f = (k : ℕ) → times k (trail s n h) + times k (trail s (length s - n) f) ≡ cond (nat_lt k (length s)) 1 0
+
+pub length-along : (s : List Link) (n i : ℕ) → length (along s n i) ≡ n
+length-along s zero i = refl
+length-along s (suc n) i = ap suc (length-along s n (next s i))
+
+pub along_fits : (s : List Link) (n i : ℕ) → n ≤ length s → length (along s n i) ≤ length s
+along_fits s n i h = omega (arith, length-along s n i)

@@ -15,7 +15,7 @@ pub struct Link {
 pub(crate) fn link_up(at: &mut [Link])
     ensures { (k : ℕ) → k < length at.new → next at.new k ≡ k + 1 }
 {
-    for i in 0..at.len() {
-        at[i].next = i + 1;
+    for (i, link) in at.iter_mut().enumerate() {
+        link.next = i + 1;
     }
 }

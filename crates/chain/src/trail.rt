@@ -1,9 +1,11 @@
 // A walk along the orders of linked slots.
-ghost use Rattle.chain.specs.Trails.{Inside, along};
+#![tactic(auto, using(crate::proofs::Places::places))]
+
+ghost use Rattle.std.specs.Iterator.{YieldsFirst, item_count};
+ghost use Rattle.chain.specs.Trails.{Inside};
 
 use crate::link::Link;
 use orders::order::Order;
-use shelves::walk::Walk;
 
 #[derive(Drop)]
 pub(crate) struct Trail<'a> {
@@ -13,14 +15,16 @@ pub(crate) struct Trail<'a> {
     ghost inside: { Inside links.now left at },
 }
 
-impl<'a> Walk for Trail<'a> {
-    ghost ahead = { λ w. along w.links.now w.left w.at };
+impl Iterator for Trail<'_> {
+    ghost use Rattle.chain.specs.Chains.{ahead};
 
-    fn left(&self) -> usize {
-        self.left
-    }
+    type Item = Order;
 
-    fn step(&mut self) -> Option<Order> {
+    ghost next_gives = { YieldsFirst ahead };
+
+    ghost remaining = { item_count ahead };
+
+    fn next(&mut self) -> Option<Order> {
         if self.left == 0 {
             return None;
         }

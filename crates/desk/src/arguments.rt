@@ -1,6 +1,6 @@
 // The words that the desk is started with.
 ghost use Rattle.std.specs.Prelude.{◌≡◌, map, string_bytes};
-ghost use Rattle.desk.specs.Arguments.{answered, asked, asked_by};
+ghost use Rattle.desk.specs.Arguments.{answered, asked};
 
 use std::error::Error;
 use std::fmt;
@@ -32,29 +32,21 @@ pub enum BadArguments<'a> {
 }
 
 // What the words after the program's name ask for.
-pub fn parse<'a>(words: &'a [String]) -> Result<Request, BadArguments<'a>>
+pub fn parse(words: &[String]) -> Result<Request, BadArguments<'_>>
     ensures { answered result ≡ asked (map string_bytes words.now) }
 {
-    if words.len() > 1 {
-        return Err(BadArguments::TooMany);
-    }
-    match words.first() {
-        Some(word) => parse_word(word.as_str()),
-        None => Ok(Request::Listing),
-    }
-}
-
-fn parse_word<'a>(word: &'a str) -> Result<Request, BadArguments<'a>>
-    ensures { answered result ≡ asked_by word.now }
-{
-    match word {
-        "-" => Ok(Request::Listing),
-        "--help" => Ok(Request::Help),
-        other => Err(BadArguments::Unknown(other)),
+    match words {
+        [] => Ok(Request::Listing),
+        [word] => match word.as_str() {
+            "-" => Ok(Request::Listing),
+            "--help" => Ok(Request::Help),
+            other => Err(BadArguments::Unknown(other)),
+        },
+        _ => Err(BadArguments::TooMany),
     }
 }
 
-impl<'a> fmt::Display for BadArguments<'a> {
+impl fmt::Display for BadArguments<'_> {
     fn fmt<W: fmt::Write>(&self, f: &mut fmt::Formatter<W>) -> fmt::Result {
         match self {
             BadArguments::Unknown(word) => write!(f, "unknown argument {word:?} (see desk --help)"),
@@ -63,4 +55,4 @@ impl<'a> fmt::Display for BadArguments<'a> {
     }
 }
 
-impl<'a> Error for BadArguments<'a> {}
+impl Error for BadArguments<'_> {}

@@ -1,12 +1,12 @@
 // Every record of a stream, a line each as it is read, and a closing line.
-ghost use Rattle.std.specs.Prelude.{◌≡◌, IfOk};
+ghost use Rattle.std.specs.Prelude.{◌≡◌, IfOk, is_some};
 ghost use Rattle.desk.specs.Listing.{Listed, Shown};
 ghost use Rattle.wire.specs.Reading.{bytes, position};
 
 use lines::record::RecordLine;
-use lines::refusal::RefusalLine;
 use std::io;
 use wire::reader::Reader;
+use wire::record::Record;
 
 // How far a listing came, and how many records it saw.
 #[derive(Clone, Copy)]
@@ -20,7 +20,8 @@ pub fn list(rt: &HostRuntime, input: &[u8]) -> io::Result<Listing>
 {
     let mut reader = Reader::new(input);
     let mut records = 0;
-    while show_next(rt, &mut reader)? {
+    // No plainer: from_fn(|| show_next(rt, &mut reader).transpose()).try_fold(0, |n, shown| ..)?.
+    while show_next(rt, &mut reader)?.is_some() {
         records += 1;
     }
     let read = reader.position();
@@ -29,22 +30,23 @@ pub fn list(rt: &HostRuntime, input: &[u8]) -> io::Result<Listing>
     Ok(Listing { read, records })
 }
 
-// Prints the next record, or why there is none. False at the end and after a refusal.
-fn show_next(rt: &HostRuntime, reader: &mut Reader) -> io::Result<bool>
-    ensures shown { IfOk result (λ more. Shown more (bytes reader.old) (position reader.old) (position reader.new)) }
+// Prints the next record, or why there is none. Gives the record that it printed: none at the end
+// and after a refusal.
+fn show_next<'a>(rt: &HostRuntime, reader: &mut Reader<'a>) -> io::Result<Option<Record<'a>>>
+    ensures shown { IfOk result (λ shown. Shown (is_some shown) (bytes reader.old) (position reader.old) (position reader.new)) }
     ensures bytes { bytes reader.new ≡ bytes reader.old }
 {
     let at = reader.position();
     match reader.next() {
         Ok(Some(record)) => {
             println!(rt; "@{at} {}", RecordLine(record))?;
-            Ok(true)
+            Ok(Some(record))
         }
-        Ok(None) => Ok(false),
+        Ok(None) => Ok(None),
         Err(refusal) => {
             println!(rt; "@{at}")?;
-            println!(rt; "  {}", RefusalLine(refusal))?;
-            Ok(false)
+            println!(rt; "  {refusal}")?;
+            Ok(None)
         }
     }
 }

@@ -5,48 +5,38 @@ use std::alloc::{AllocError, Global};
 use std::test::Fail;
 
 fn words(heap: Global, texts: &[&str]) -> Result<Vec<String>, AllocError> {
-    let mut words = Vec::new(heap);
-    for text in texts {
-        words.push(String::from_str(heap, text)?)?;
-    }
-    Ok(words)
+    texts
+        .iter()
+        .map(|text| String::from_str(heap, text))
+        .try_collect(heap)
 }
 
 #[test]
 fn arguments_are_read(rt: HostRuntime) -> Result<(), Fail> {
     let heap = rt.alloc();
-    assert_eq!(rt; parse(words(heap, &[])?.as_slice()), Ok(Request::Listing));
-    assert_eq!(rt;
-        parse(words(heap, &["-"])?.as_slice()),
-        Ok(Request::Listing)
-    );
-    assert_eq!(rt;
-        parse(words(heap, &["--help"])?.as_slice()),
-        Ok(Request::Help)
-    );
-    let wrong = words(heap, &["--hel"])?;
-    assert_eq!(rt;
-        parse(wrong.as_slice()),
-        Err(BadArguments::Unknown("--hel"))
-    );
-    let two = words(heap, &["-", "--help"])?;
-    assert_eq!(rt; parse(two.as_slice()), Err(BadArguments::TooMany));
+    let asked: [(&[&str], _); 5] = [
+        (&[], Ok(Request::Listing)),
+        (&["-"], Ok(Request::Listing)),
+        (&["--help"], Ok(Request::Help)),
+        (&["--hel"], Err(BadArguments::Unknown("--hel"))),
+        (&["-", "--help"], Err(BadArguments::TooMany)),
+    ];
+    for (texts, answer) in asked {
+        assert_eq!(rt; parse(words(heap, texts)?.as_slice()), answer);
+    }
     Ok(())
 }
 
 #[test]
 fn bad_arguments_are_one_clear_line(rt: HostRuntime) -> Result<(), Fail> {
     let heap = rt.alloc();
-    let line = format!(in heap; "{}", BadArguments::Unknown("2016"))?;
-    assert_eq!(rt;
-        line.as_str(),
-        "unknown argument \"2016\" (see desk --help)"
-    );
-    let broken = format!(in heap; "{}", BadArguments::Unknown("a\nb"))?;
-    assert_eq!(rt;
-        broken.as_str(),
-        "unknown argument \"a\\nb\" (see desk --help)"
-    );
+    for (word, line) in [
+        ("2016", "unknown argument \"2016\" (see desk --help)"),
+        ("a\nb", "unknown argument \"a\\nb\" (see desk --help)"),
+    ] {
+        let shown = format!(in heap; "{}", BadArguments::Unknown(word))?;
+        assert_eq!(rt; shown.as_str(), line);
+    }
     Ok(())
 }
 

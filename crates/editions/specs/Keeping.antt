@@ -45,21 +45,21 @@ left FillOrKill b m f h k = inr (record { kind = refl; before = λ g i. grind (a
 module _ (s b : ℕ) (meet : s ≤ b) where
   ordered : (n m : Option ℕ) → ((p : ℕ) → n ≡ Some p → p ≤ b) → ((p : ℕ) → m ≡ Some p → s ≤ p) → ((p q : ℕ) → n ≡ Some p → m ≡ Some q → p < q) → raised s n ≤ lowered b m
   ordered None None fall rise apart = meet
-  ordered (Some p) None fall rise apart = let i = fall p refl in grind (arith, nat_tests)
-  ordered None (Some q) fall rise apart = let i = rise q refl in grind (arith, nat_tests)
+  ordered (Some p) None fall rise apart = let i = fall p refl in omega arith
+  ordered None (Some q) fall rise apart = let i = rise q refl in omega arith
   ordered (Some p) (Some q) fall rise apart =
       let i = fall p refl in
       let j = rise q refl in
       let k = apart p q refl refl in
-      grind (arith, nat_tests)
+      omega arith
 
 from : (s : ℕ) (n : Option ℕ) → s ≤ raised s n
 from s None = omega arith
-from s (Some p) = grind (arith, nat_tests)
+from s (Some p) = omega arith
 
 to : (b : ℕ) (m : Option ℕ) → lowered b m ≤ b
 to b None = omega arith
-to b (Some q) = grind (arith, nat_tests)
+to b (Some q) = omega arith
 
 pub lawful2016 : Lawful text2016
 lawful2016 = record {

@@ -14,7 +14,7 @@
 use Rattle.std.specs.Prelude.{◌≡◌, ℕ, ◌-◌, ◌<◌, ◌≤◌, true, ◌⊎◌, Some}
 use Rattle.orders.specs.declared.kind.Kind.TheVariants.{Limit}
 use Rattle.editions.specs.declared.cut.Cut.{Cut}
-use Rattle.editions.specs.declared.terms.Terms.{Terms}
+use Rattle.orders.specs.declared.terms.Terms.{Terms}
 use Rattle.editions.specs.Text.{Text, terms}
 
 abbrev pub LimitIsFree : Text → Type 0

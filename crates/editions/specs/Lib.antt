@@ -1,4 +1,4 @@
-pub mod Constants
+pub mod Sets
 pub mod Laws
 pub mod Text
 pub mod Texts

@@ -2,22 +2,19 @@
 --     Text          all of an edition; its answers are functions of what is asked about alone
 --     terms k m     the terms of a balance of kind k with minimum m
 --     among code letters x      the letter of x is one of these
-use Rattle.std.specs.Prelude.{ℕ, Bool, false, ◌||◌, List, [], ◌∷◌, codes, Option, ◌==◌}
+use Rattle.std.specs.Prelude.{ℕ, Bool, codes, Option, ◌==◌}
+use Rattle.std.specs.List.{list_any}
 use Prim.Native.String.{String}
 use Rattle.orders.specs.declared.kind.Kind.{Kind}
 use Rattle.orders.specs.declared.time.TimeInForce.{TimeInForce}
 use Rattle.editions.specs.declared.cut.Cut.{Cut}
-use Rattle.editions.specs.declared.terms.Terms.{Terms}
+use Rattle.orders.specs.declared.terms.Terms.{Terms}
 
 abbrev pub terms : Kind → ℕ → Terms
 terms k m = record { kind = k; minimum = m }
 
-abbrev pub in_list : ℕ → List ℕ → Bool
-in_list n [] = false
-in_list n (x ∷ xs) = n == x || in_list n xs
-
 abbrev pub among : {A : Type 0} → (A → ℕ) → String → A → Bool
-among code letters x = in_list (code x) (codes letters)
+among code letters x = list_any (λ c. code x == c) (codes letters)
 
 pub record Text : Type 0 where
   -- how far beyond the best opposite price an entry's price may lie

@@ -6,21 +6,22 @@
 --     idle_by choose bid offer    the price when nothing can trade, by the best price of each side with its bonds
 --     best_bid, larger_side       of two best prices the bid, or that of the side with more bonds, the bid on a tie
 --     text2006, text2016          the texts
-use Rattle.std.specs.Prelude.{ℕ, ◌-◌, Bool, cond, ◌&&◌, ◌||◌, Some, None, Option, ◌==◌, nat_le, nat_lt}
+use Rattle.std.specs.Prelude.{ℕ, ◌-◌, Bool, cond, ◌||◌, Some, None, Option, ◌==◌, max, min, nat_lt}
+use Rattle.std.specs.Int.{is_in_range}
 use Rattle.orders.specs.Letters.{kind_letter, time_letter}
 use Rattle.orders.specs.declared.kind.Kind.{Kind}
 use Rattle.orders.specs.declared.kind.Kind.TheVariants.{Limit, AllOrNone, MinimumQuantity, FillOrKill}
 use Rattle.editions.specs.declared.cut.Level.{Level}
-use Rattle.editions.specs.declared.terms.Terms.{Terms}
+use Rattle.orders.specs.declared.terms.Terms.{Terms}
 use Rattle.editions.specs.Text.{Text, among, terms}
 
 abbrev pub part : ℕ → ℕ → Bool
-part b f = nat_le 1 f && nat_le f b
+part b f = is_in_range 1 b f
 
 abbrev pub admits2016 : Kind → ℕ → ℕ → ℕ → Bool
 admits2016 Limit b m f = part b f
 admits2016 AllOrNone b m f = f == b
-admits2016 MinimumQuantity b m f = f == b || (nat_le m f && nat_le f b)
+admits2016 MinimumQuantity b m f = f == b || is_in_range m b f
 admits2016 FillOrKill b m f = f == b
 
 abbrev pub after2016 : Kind → ℕ → ℕ → Terms
@@ -31,11 +32,11 @@ after2016 FillOrKill left m = terms FillOrKill m
 
 abbrev pub raised : ℕ → Option ℕ → ℕ
 raised p None = p
-raised p (Some q) = cond (nat_lt p q) q p
+raised p (Some q) = max p q
 
 abbrev pub lowered : ℕ → Option ℕ → ℕ
 lowered p None = p
-lowered p (Some q) = cond (nat_lt q p) q p
+lowered p (Some q) = min p q
 
 -- with both sides empty none, with one the other's best
 abbrev pub idle_by : (Level → Level → ℕ) → Option Level → Option Level → Option ℕ

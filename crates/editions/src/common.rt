@@ -8,16 +8,12 @@ use crate::cut::Cut;
 pub fn is_part(balance: u32, fill: u32) -> bool
     ensures { result ≡ part balance fill }
 {
-    1 <= fill && fill <= balance
+    (1..=balance).contains(&fill)
 }
 
 // The best bid or, where there is none, the best offer.
 pub fn best_bid_or_offer(cut: &Cut) -> Option<u32>
     ensures { result ≡ idle_by best_bid cut.now.bids.best cut.now.offers.best }
 {
-    match (cut.bids.best, cut.offers.best) {
-        (Some(bid), _) => Some(bid.price),
-        (None, Some(offer)) => Some(offer.price),
-        (None, None) => None,
-    }
+    cut.bids.best.or(cut.offers.best).map(|level| level.price)
 }

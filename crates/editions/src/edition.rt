@@ -1,31 +1,32 @@
 // What an edition is: what it names, what it answers, and the laws that it keeps.
-ghost use Rattle.std.specs.Prelude.{◌≡◌};
+ghost use Rattle.std.specs.Prelude.{◌≡◌, ℕ};
 ghost use Rattle.orders.specs.declared.kind.Kind.{Kind};
 ghost use Rattle.orders.specs.declared.time.TimeInForce.{TimeInForce};
+ghost use Rattle.editions.specs.declared.sets.KindSet.{KindSet};
+ghost use Rattle.editions.specs.declared.sets.TimeSet.{TimeSet};
 ghost use Rattle.editions.specs.Laws.{Lawful};
+ghost use Rattle.editions.specs.Sets.{has_kind, has_time};
 ghost use Rattle.editions.specs.Text.{Text};
 
-use crate::constants::{Number, Set};
 use crate::cut::Cut;
-use crate::terms::Terms;
-use orders::kind::Kind;
-use orders::time::TimeInForce;
+use crate::sets::{KindSet, TimeSet};
+use orders::terms::Terms;
 
 pub trait Edition {
-    type Width: Number + Copy;
-
-    type Kinds: Set<Kind> + Copy;
-
-    type Times: Set<TimeInForce> + Copy;
-
     // The collar width: how far beyond the best opposite price an entry's price may lie.
-    const WIDTH: Self::Width;
+    const WIDTH: u32;
+
+    ghost WIDTH: { ℕ };
 
     // The kinds that an entry may have.
-    const KINDS: Self::Kinds;
+    const KINDS: KindSet;
+
+    ghost KINDS: { KindSet };
 
     // The times in force that an entry may have.
-    const TIMES: Self::Times;
+    const TIMES: TimeSet;
+
+    ghost TIMES: { TimeSet };
 
     // What it names and answers.
     ghost text: { Text };
@@ -50,11 +51,11 @@ pub trait Edition {
     fn idle_price(cut: &Cut) -> Option<u32>
         ensures { result ≡ text.idle_price cut.now };
 
-    ghost width: { Self.Width.Number.value ≡ text.width };
+    ghost width: { WIDTH ≡ text.width };
 
-    ghost kinds: { (k : Kind) → Self.Kinds.Set.member k ≡ text.kinds k };
+    ghost kinds: { (k : Kind) → has_kind KINDS k ≡ text.kinds k };
 
-    ghost times: { (t : TimeInForce) → Self.Times.Set.member t ≡ text.times t };
+    ghost times: { (t : TimeInForce) → has_time TIMES t ≡ text.times t };
 
     ghost lawful: { Lawful text };
 }

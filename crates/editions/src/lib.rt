@@ -3,8 +3,8 @@
 #![tactic(auto)]
 
 pub mod common;
-pub mod constants;
 pub mod cut;
 pub mod edition;
+pub mod sets;
 pub mod text2006;
 pub mod text2016;

@@ -1,30 +1,37 @@
 // The text of 2006, for municipal boards.
 ghost use Rattle.editions.specs.Texts.{text2006};
 ghost use Rattle.editions.specs.Keeping.{lawful2006};
-ghost use Rattle.std.proofs.Common.{rules};
+ghost use Rattle.std.proofs.Common.{true, false, rules};
 
 use crate::common::{best_bid_or_offer, is_part};
-use crate::constants::{Exactly, Kinds, Times};
 use crate::cut::Cut;
 use crate::edition::Edition;
-use crate::terms::Terms;
+use crate::sets::{KindSet, TimeSet};
+use orders::terms::Terms;
 
 pub struct Text2006;
 
 impl Edition for Text2006 {
-    type Width = Exactly<1000>;
+    const WIDTH: u32 = 1000;
 
-    // L.
-    type Kinds = Kinds<true, false, false, false>;
+    ghost WIDTH = { 1000 };
 
-    // D and C.
-    type Times = Times<true, true, false>;
+    const KINDS: KindSet = KindSet {
+        limit: true,
+        all_or_none: false,
+        minimum_quantity: false,
+        fill_or_kill: false,
+    };
 
-    const WIDTH: Self::Width = Exactly;
+    ghost KINDS = { record { limit = true; all_or_none = false; minimum_quantity = false; fill_or_kill = false } };
 
-    const KINDS: Self::Kinds = Kinds;
+    const TIMES: TimeSet = TimeSet {
+        day: true,
+        good_till_cancelled: true,
+        good_till_date: false,
+    };
 
-    const TIMES: Self::Times = Times;
+    ghost TIMES = { record { day = true; good_till_cancelled = true; good_till_date = false } };
 
     ghost text = { text2006 };
 

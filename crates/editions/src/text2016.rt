@@ -1,31 +1,38 @@
 // The text of 2016, for corporate boards.
 ghost use Rattle.editions.specs.Texts.{text2016};
 ghost use Rattle.editions.specs.Keeping.{lawful2016};
-ghost use Rattle.std.proofs.Common.{rules};
+ghost use Rattle.std.proofs.Common.{true, rules};
 
 use crate::common::{best_bid_or_offer, is_part};
-use crate::constants::{Exactly, Kinds, Times};
 use crate::cut::Cut;
 use crate::edition::Edition;
-use crate::terms::Terms;
+use crate::sets::{KindSet, TimeSet};
 use orders::kind::Kind;
+use orders::terms::Terms;
 
 pub struct Text2016;
 
 impl Edition for Text2016 {
-    type Width = Exactly<1000>;
+    const WIDTH: u32 = 1000;
 
-    // L, A, M and F.
-    type Kinds = Kinds<true, true, true, true>;
+    ghost WIDTH = { 1000 };
 
-    // D, C and G.
-    type Times = Times<true, true, true>;
+    const KINDS: KindSet = KindSet {
+        limit: true,
+        all_or_none: true,
+        minimum_quantity: true,
+        fill_or_kill: true,
+    };
 
-    const WIDTH: Self::Width = Exactly;
+    ghost KINDS = { record { limit = true; all_or_none = true; minimum_quantity = true; fill_or_kill = true } };
 
-    const KINDS: Self::Kinds = Kinds;
+    const TIMES: TimeSet = TimeSet {
+        day: true,
+        good_till_cancelled: true,
+        good_till_date: true,
+    };
 
-    const TIMES: Self::Times = Times;
+    ghost TIMES = { record { day = true; good_till_cancelled = true; good_till_date = true } };
 
     ghost text = { text2016 };
 
@@ -41,7 +48,9 @@ impl Edition for Text2016 {
         match terms.kind {
             Kind::Limit => is_part(balance, fill),
             Kind::AllOrNone | Kind::FillOrKill => fill == balance,
-            Kind::MinimumQuantity => fill == balance || terms.minimum <= fill && fill <= balance,
+            Kind::MinimumQuantity => {
+                fill == balance || (terms.minimum..=balance).contains(&fill)
+            }
         }
     }
 
@@ -57,17 +66,13 @@ impl Edition for Text2016 {
     }
 
     fn low(cut: &Cut) -> u32 {
-        match cut.bids.next {
-            Some(next) if next > cut.offers.last => next,
-            _ => cut.offers.last,
-        }
+        let last = cut.offers.last;
+        cut.bids.next.map_or(last, |next| next.max(last))
     }
 
     fn high(cut: &Cut) -> u32 {
-        match cut.offers.next {
-            Some(next) if next < cut.bids.last => next,
-            _ => cut.bids.last,
-        }
+        let last = cut.bids.last;
+        cut.offers.next.map_or(last, |next| next.min(last))
     }
 
     fn idle_price(cut: &Cut) -> Option<u32> {

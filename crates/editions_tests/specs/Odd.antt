@@ -9,7 +9,7 @@ use Rattle.orders.specs.declared.kind.Kind.{Kind}
 use Rattle.orders.specs.declared.kind.Kind.TheVariants.{Limit, AllOrNone, MinimumQuantity, FillOrKill}
 use Rattle.editions.specs.Text.{Text, among, terms}
 use Rattle.editions.specs.declared.cut.Level.{Level}
-use Rattle.editions.specs.declared.terms.Terms.{Terms}
+use Rattle.orders.specs.declared.terms.Terms.{Terms}
 
 abbrev pub odd_admits : Kind → ℕ → ℕ → ℕ → Bool
 odd_admits Limit b m f = true

@@ -3,28 +3,29 @@ use crate::generic::{has_kind, has_time, width};
 use crate::odd::Odd;
 use editions::cut::{Cut, CutSide, Level};
 use editions::edition::Edition;
-use editions::terms::Terms;
 use editions::text2006::Text2006;
 use editions::text2016::Text2016;
 use orders::kind::Kind;
+use orders::terms::Terms;
 use orders::time::TimeInForce;
 use std::process::Abort;
 
-// The kinds L, A, M and F, and the times D, C and G, of an edition.
+const KINDS: [Kind; 4] = [
+    Kind::Limit,
+    Kind::AllOrNone,
+    Kind::MinimumQuantity,
+    Kind::FillOrKill,
+];
+
+const TIMES: [TimeInForce; 3] = [
+    TimeInForce::Day,
+    TimeInForce::GoodTillCancelled,
+    TimeInForce::GoodTillDate,
+];
+
+// Which kinds and which times an edition has.
 fn names<E: Edition>() -> ([bool; 4], [bool; 3]) {
-    (
-        [
-            has_kind::<E>(Kind::Limit),
-            has_kind::<E>(Kind::AllOrNone),
-            has_kind::<E>(Kind::MinimumQuantity),
-            has_kind::<E>(Kind::FillOrKill),
-        ],
-        [
-            has_time::<E>(TimeInForce::Day),
-            has_time::<E>(TimeInForce::GoodTillCancelled),
-            has_time::<E>(TimeInForce::GoodTillDate),
-        ],
-    )
+    (KINDS.map(has_kind::<E>), TIMES.map(has_time::<E>))
 }
 
 #[test]
@@ -32,15 +33,18 @@ fn generic_code_reads_what_an_edition_names(rt: HostRuntime) {
     assert_eq!(rt; width::<Text2006>(), 1000);
     assert_eq!(rt; width::<Text2016>(), 1000);
     assert_eq!(rt; width::<Odd>(), 0);
-    let (kinds, times) = names::<Text2006>();
-    assert_eq!(rt; kinds, [true, false, false, false]);
-    assert_eq!(rt; times, [true, true, false]);
-    let (kinds, times) = names::<Text2016>();
-    assert_eq!(rt; kinds, [true, true, true, true]);
-    assert_eq!(rt; times, [true, true, true]);
-    let (kinds, times) = names::<Odd>();
-    assert_eq!(rt; kinds, [false, true, true, false]);
-    assert_eq!(rt; times, [false, false, true]);
+    assert_eq!(rt;
+        names::<Text2006>(),
+        ([true, false, false, false], [true, true, false])
+    );
+    assert_eq!(rt;
+        names::<Text2016>(),
+        ([true, true, true, true], [true, true, true])
+    );
+    assert_eq!(rt;
+        names::<Odd>(),
+        ([false, true, true, false], [false, false, true])
+    );
 }
 
 const PLAIN: Terms = Terms {
@@ -102,23 +106,17 @@ fn fills_of_a_thousand(rt: HostRuntime) {
     admits::<Text2016>(&rt, WHOLE, &ALL);
     admits::<Text2016>(&rt, KILL, &ALL);
     admits::<Text2016>(&rt, FOUR_HUNDRED, &MORE);
-    assert!(rt; <Text2016 as Edition>::admits(300, FOUR_HUNDRED, 300));
-    assert!(rt; !<Text2016 as Edition>::admits(300, FOUR_HUNDRED, 299));
+    assert!(rt; Text2016::admits(300, FOUR_HUNDRED, 300));
+    assert!(rt; !Text2016::admits(300, FOUR_HUNDRED, 299));
 }
 
 #[test]
 fn balance_under_its_minimum_turns_plain(rt: HostRuntime) {
-    assert_eq!(rt;
-        <Text2016 as Edition>::after(1000, FOUR_HUNDRED, 600),
-        FOUR_HUNDRED
-    );
-    assert_eq!(rt;
-        <Text2016 as Edition>::after(1000, FOUR_HUNDRED, 601),
-        PLAIN
-    );
-    assert_eq!(rt; <Text2016 as Edition>::after(1000, WHOLE, 1000), WHOLE);
-    assert_eq!(rt; <Text2016 as Edition>::after(1000, PLAIN, 600), PLAIN);
-    assert_eq!(rt; <Text2006 as Edition>::after(1000, PLAIN, 600), PLAIN);
+    assert_eq!(rt; Text2016::after(1000, FOUR_HUNDRED, 600), FOUR_HUNDRED);
+    assert_eq!(rt; Text2016::after(1000, FOUR_HUNDRED, 601), PLAIN);
+    assert_eq!(rt; Text2016::after(1000, WHOLE, 1000), WHOLE);
+    assert_eq!(rt; Text2016::after(1000, PLAIN, 600), PLAIN);
+    assert_eq!(rt; Text2006::after(1000, PLAIN, 600), PLAIN);
 }
 
 #[test]
@@ -127,14 +125,14 @@ fn odd_balance_doubles_its_minimum(rt: HostRuntime) {
         kind: Kind::MinimumQuantity,
         minimum: 800,
     };
-    assert_eq!(rt; <Odd as Edition>::after(2000, FOUR_HUNDRED, 1200), doubled);
+    assert_eq!(rt; Odd::after(2000, FOUR_HUNDRED, 1200), doubled);
     let plain = Terms {
         kind: Kind::Limit,
         minimum: 1201,
     };
-    assert_eq!(rt; <Odd as Edition>::after(2000, FOUR_HUNDRED, 1201), plain);
-    assert!(rt; <Odd as Edition>::admits(75, WHOLE, 38));
-    assert!(rt; !<Odd as Edition>::admits(75, WHOLE, 37));
+    assert_eq!(rt; Odd::after(2000, FOUR_HUNDRED, 1201), plain);
+    assert!(rt; Odd::admits(75, WHOLE, 38));
+    assert!(rt; !Odd::admits(75, WHOLE, 37));
 }
 
 // Buys of 500 at 102.000 and 500 at 101.750, and a sell of 500 at 101.000: all 500 of the sell trade.
@@ -185,61 +183,62 @@ const EMPTY: CutSide = CutSide {
     best: None,
 };
 
+// The lowest and the highest price.
+fn range<E: Edition>(cut: &Cut) -> (u32, u32) {
+    (E::low(cut), E::high(cut))
+}
+
 #[test]
 fn range_of_an_auction(rt: HostRuntime) {
-    assert_eq!(rt; <Text2016 as Edition>::low(&TRADING), 101_750);
-    assert_eq!(rt; <Text2016 as Edition>::high(&TRADING), 102_000);
-    assert_eq!(rt; <Text2006 as Edition>::low(&TRADING), 101_000);
-    assert_eq!(rt; <Text2006 as Edition>::high(&TRADING), 102_000);
+    assert_eq!(rt; range::<Text2016>(&TRADING), (101_750, 102_000));
+    assert_eq!(rt; range::<Text2006>(&TRADING), (101_000, 102_000));
     let sellers = Cut {
-        volume: 500,
-        bids: TRADING.bids,
         offers: CutSide {
-            last: 101_000,
             next: Some(101_900),
             best: None,
+            ..TRADING.offers
         },
+        ..TRADING
     };
-    assert_eq!(rt; <Text2016 as Edition>::high(&sellers), 101_900);
-    assert_eq!(rt; <Text2006 as Edition>::high(&sellers), 102_000);
+    assert_eq!(rt; range::<Text2016>(&sellers), (101_750, 101_900));
+    assert_eq!(rt; range::<Text2006>(&sellers), (101_000, 102_000));
 }
 
 #[test]
 fn price_when_nothing_can_trade(rt: HostRuntime) {
-    assert_eq!(rt; <Text2016 as Edition>::idle_price(&APART), Some(101_750));
-    assert_eq!(rt; <Text2006 as Edition>::idle_price(&APART), Some(101_000));
     let tie = Cut {
-        volume: 0,
-        bids: APART.bids,
         offers: CutSide {
-            last: 0,
-            next: Some(101_750),
             best: Some(Level {
                 price: 101_750,
                 bonds: 300,
             }),
+            ..APART.offers
         },
+        ..APART
     };
-    assert_eq!(rt; <Text2016 as Edition>::idle_price(&tie), Some(101_000));
     let bids = Cut {
-        volume: 0,
-        bids: APART.bids,
         offers: EMPTY,
+        ..APART
     };
-    assert_eq!(rt; <Text2016 as Edition>::idle_price(&bids), Some(101_000));
-    assert_eq!(rt; <Text2006 as Edition>::idle_price(&bids), Some(101_000));
     let offers = Cut {
-        volume: 0,
         bids: EMPTY,
-        offers: APART.offers,
+        ..APART
     };
-    assert_eq!(rt; <Text2016 as Edition>::idle_price(&offers), Some(101_750));
-    assert_eq!(rt; <Text2006 as Edition>::idle_price(&offers), Some(101_750));
     let neither = Cut {
-        volume: 0,
         bids: EMPTY,
         offers: EMPTY,
+        ..APART
     };
-    assert_eq!(rt; <Text2016 as Edition>::idle_price(&neither), None);
-    assert_eq!(rt; <Text2006 as Edition>::idle_price(&neither), None);
+    // Each cut, with the price in 2016 and in 2006.
+    let cuts = [
+        (APART, Some(101_750), Some(101_000)),
+        (tie, Some(101_000), Some(101_000)),
+        (bids, Some(101_000), Some(101_000)),
+        (offers, Some(101_750), Some(101_750)),
+        (neither, None, None),
+    ];
+    for (cut, corporate, municipal) in &cuts {
+        assert_eq!(rt; Text2016::idle_price(cut), *corporate);
+        assert_eq!(rt; Text2006::idle_price(cut), *municipal);
+    }
 }

@@ -2,7 +2,6 @@
 ghost use Rattle.std.specs.Prelude.{◌≡◌};
 ghost use Rattle.editions.specs.Laws.{Lawful};
 
-use editions::constants::{Number, Set};
 use editions::edition::Edition;
 use orders::kind::Kind;
 use orders::time::TimeInForce;
@@ -10,19 +9,19 @@ use orders::time::TimeInForce;
 pub fn width<E: Edition>() -> u32
     ensures { result ≡ E.Edition.text.width }
 {
-    E::WIDTH.get()
+    E::WIDTH
 }
 
 pub fn has_kind<E: Edition>(kind: Kind) -> bool
     ensures { result ≡ E.Edition.text.kinds kind }
 {
-    E::KINDS.has(kind)
+    E::KINDS.contains(kind)
 }
 
 pub fn has_time<E: Edition>(time: TimeInForce) -> bool
     ensures { result ≡ E.Edition.text.times time }
 {
-    E::TIMES.has(time)
+    E::TIMES.contains(time)
 }
 
 // Every edition is lawful.

@@ -1,30 +1,37 @@
 // An odd edition: it keeps the laws in another way than the two texts.
 ghost use Rattle.editions_tests.specs.Odd.{odd};
 ghost use Rattle.editions_tests.specs.Keeping;
-ghost use Rattle.std.proofs.Common.{rules};
+ghost use Rattle.std.proofs.Common.{true, false, rules};
 
-use editions::constants::{Exactly, Kinds, Times};
 use editions::cut::Cut;
 use editions::edition::Edition;
-use editions::terms::Terms;
+use editions::sets::{KindSet, TimeSet};
 use orders::kind::Kind;
+use orders::terms::Terms;
 
 pub struct Odd;
 
 impl Edition for Odd {
-    type Width = Exactly<0>;
+    const WIDTH: u32 = 0;
 
-    // A and M.
-    type Kinds = Kinds<false, true, true, false>;
+    ghost WIDTH = { 0 };
 
-    // G.
-    type Times = Times<false, false, true>;
+    const KINDS: KindSet = KindSet {
+        limit: false,
+        all_or_none: true,
+        minimum_quantity: true,
+        fill_or_kill: false,
+    };
 
-    const WIDTH: Self::Width = Exactly;
+    ghost KINDS = { record { limit = false; all_or_none = true; minimum_quantity = true; fill_or_kill = false } };
 
-    const KINDS: Self::Kinds = Kinds;
+    const TIMES: TimeSet = TimeSet {
+        day: false,
+        good_till_cancelled: false,
+        good_till_date: true,
+    };
 
-    const TIMES: Self::Times = Times;
+    ghost TIMES = { record { day = false; good_till_cancelled = false; good_till_date = true } };
 
     ghost text = { odd };
 
@@ -41,7 +48,7 @@ impl Edition for Odd {
     fn admits(balance: u32, terms: Terms, fill: u32) -> bool {
         match terms.kind {
             Kind::Limit => true,
-            Kind::AllOrNone => 2 * u64::from(fill) >= u64::from(balance),
+            Kind::AllOrNone => fill >= balance.div_ceil(2),
             Kind::MinimumQuantity => fill >= terms.minimum || fill >= balance,
             Kind::FillOrKill => fill >= balance,
         }
@@ -65,7 +72,7 @@ impl Edition for Odd {
 
     // Halfway between the two prices, rounded down.
     fn low(cut: &Cut) -> u32 {
-        ((u64::from(cut.offers.last) + u64::from(cut.bids.last)) / 2) as u32
+        cut.offers.last.midpoint(cut.bids.last)
     }
 
     fn high(cut: &Cut) -> u32 {
@@ -74,9 +81,6 @@ impl Edition for Odd {
 
     // The best offer, whatever is bid.
     fn idle_price(cut: &Cut) -> Option<u32> {
-        match cut.offers.best {
-            Some(offer) => Some(offer.price),
-            None => None,
-        }
+        cut.offers.best.map(|offer| offer.price)
     }
 }

@@ -1,5 +1,5 @@
 -- Which entries are taken in form. Assumes nothing.
-use Rattle.std.proofs.Common.{◌≡◌, ℕ, Bool, true, false, cond, ◌&&◌, eqb, leb, List, [], ◌∷◌, Some, None, Ok, Err, Option, Result, sym, refl, ap, arith}
+use Rattle.std.proofs.Common.{◌≡◌, ℕ, Bool, true, false, cond, ◌&&◌, eqb, List, [], ◌∷◌, Some, None, Ok, Err, Option, Result, refl, ap, arith}
 use Rattle.std.proofs.lemmas.Bool.{and_parts}
 use Rattle.std.proofs.lemmas.Bool.Decides.{nat_tests}
 use Rattle.std.specs.Option.{option_map, ok_or}
@@ -24,63 +24,41 @@ use Rattle.entries.specs.Form.{◌>>=◌, checked, choose, date_check, date_fits
 use Rattle.entries.specs.Taken.{Fits, RefusedByField, Says, designation_fits, number_of}
 use Rattle.entries.specs.declared.checked.CheckedEntry.{CheckedEntry}
 
--- an Err is no Ok
-apart : {A : Type 0} (P : Type 0) (r : Refusal) (x : A) → Err r ≡ Ok x → P
-apart P r x e = absurd (let z : ◌≡◌ {A = ℕ} 0 1 = cc in omega arith)
-
-ok_one : {A : Type 0} (x y : A) → ◌≡◌ {A = Result A Refusal} (Ok x) (Ok y) → x ≡ y
-ok_one x y e = cc
-
 -- a chain of checks that passes, passes the first of them and goes on with what that makes
 bind_ok : {A B : Type 0} {P : Type 0} (m : Result A Refusal) (f : A → Result B Refusal) (y : B) → ◌>>=◌ m f ≡ Ok y →
     ((x : A) → m ≡ Ok x → f x ≡ Ok y → P) → P
 bind_ok (Ok x) f y e go = go x refl e
-bind_ok (Err r) f y e go = apart _ r y e
+bind_ok (Err r) f y e go = cc
 
 ok_bind : {A B : Type 0} (m : Result A Refusal) (f : A → Result B Refusal) (x : A) (y : B) → m ≡ Ok x → f x ≡ Ok y → ◌>>=◌ m f ≡ Ok y
 ok_bind m f x y e h = rw e h
 
 require_ok : (b : Bool) (r : Reason) (u : Unit {0}) → require b r ≡ Ok u → b ≡ true
 require_ok true r u e = refl
-require_ok false r u e = apart _ (direct r) u e
+require_ok false r u e = cc
 
 choose_ok : {A : Type 0} (test : A → Bool) (o : Option A) (r : Reason) (x : A) → choose test o r ≡ Ok x → (o ≡ Some x) × (test x ≡ true)
-choose_ok test None r x e = apart _ (direct r) x e
-choose_ok test (Some y) r x e = chosen (test y) refl e
-  where
-    chosen : (b : Bool) → test y ≡ b → cond b (Ok y) (Err (direct r)) ≡ Ok x → (Some y ≡ Some x) × (test x ≡ true)
-    chosen true h e = (cc, let s : y ≡ x = cc in rw (← s) h)
-    chosen false h e = apart _ (direct r) x e
+choose_ok test None r x e = cc
+choose_ok test (Some y) r x e = grind (arith, nat_tests)
 
 named_ok : {A : Type 0} (code : A → ℕ) (cases : List A) (n : ℕ) (x : A) → named code cases n ≡ Some x → code x ≡ n
-named_ok code [] n x e = absurd (let z : ◌≡◌ {A = ℕ} 0 1 = cc in omega arith)
-named_ok code (y ∷ ys) n x e = found (eqb (code y) n) refl (named_ok code ys n x) e
-  where
-    found : (b : Bool) → eqb (code y) n ≡ b → (named code ys n ≡ Some x → code x ≡ n) → cond b (Some y) (named code ys n) ≡ Some x → code x ≡ n
-    found true h more e = let s : y ≡ x = cc in let k : code y ≡ n = grind (arith, nat_tests) in rw (← s) k
-    found false h more e = more e
+named_ok code [] n x e = cc
+named_ok code (y ∷ ys) n x e = let more = named_ok code ys n x in grind (arith, nat_tests)
 
 ok_or-ok : {A : Type 0} (o : Option A) (r : Refusal) (x : A) → ok_or o r ≡ Ok x → o ≡ Some x
-ok_or-ok None r x e = apart _ r x e
+ok_or-ok None r x e = cc
 ok_or-ok (Some y) r x e = cc
 
+-- the check of a designation, by whether it is none, and by the sessions that it stands for
+abbrev asked : Kind → TimeInForce → Bool → Option Sessions → Result (Option Sessions) Refusal
+asked k x none o = cond none (Ok None) (choose (λ _. may_designate k x) (option_map Some o) DesignationNotAllowed)
+
 -- a designation that passes: none, or one of sessions
-module _ (k : Kind) (x : TimeInForce) (n : ℕ) where
-  designation_ok : (o : Option Sessions) (d : Option Sessions) → named designation_of all_sessions n ≡ o → (none : Bool) → eqb n 0 ≡ none →
-      cond none (Ok None) (choose (λ _. may_designate k x) (option_map Some o) DesignationNotAllowed) ≡ Ok d →
-      (number_of d ≡ n) × (designation_fits k x d ≡ true)
-  designation_ok o d h true i e =
-      let s : None ≡ d = cc in
-      let z : 0 ≡ n = grind (arith, nat_tests) in
-      rw (← s) (z, refl)
-  designation_ok None d h false i e = apart _ (direct DesignationNotAllowed) d e
-  designation_ok (Some s) d h false i e =
-      let c = choose_ok (λ _. may_designate k x) (Some (Some s)) DesignationNotAllowed d e in
-      let w : Some s ≡ d = cc in
-      let m : designation_of s ≡ n = named_ok designation_of all_sessions n s h in
-      let f : leb 1 (designation_of s) ≡ true = rw m (grind (arith, nat_tests)) in
-      let g = c.1 in
-      rw (← w) (m, rw (g, f))
+designation_ok : (k : Kind) (x : TimeInForce) (n : ℕ) (none : Bool) (o d : Option Sessions) → eqb n 0 ≡ none → named designation_of all_sessions n ≡ o →
+    asked k x none o ≡ Ok d → (number_of d ≡ n) × (designation_fits k x d ≡ true)
+designation_ok k x n true o d i h e = grind (arith, nat_tests)
+designation_ok k x n false None d i h e = cc
+designation_ok k x n false (Some s) d i h e = let m = named_ok designation_of all_sessions n s h in grind (arith, nat_tests)
 
 pub taken : (t : Text) (e : Entry) (x : CheckedEntry) → form t e ≡ Ok x → Says e x × Fits t x
 taken t e x h =
@@ -96,8 +74,8 @@ taken t e x h =
     let of-kind = choose_ok t.kinds (named kind_letter kinds e.kind) KindNotAllowed kind k in
     let of-time = choose_ok (λ z. t.times z && time_fits kind z) (named time_letter times e.time) TimeNotAllowed time w in
     let both = and_parts (t.times time) (time_fits kind time) of-time.1 in
-    let asked = designation_ok kind time e.designation _ designation refl _ refl d in
-    let whole = ok_one (checked e side kind time designation) x h in
+    let asked = designation_ok kind time e.designation _ _ designation refl refl d in
+    let whole : checked e side kind time designation ≡ x = cc in
     rw (← whole) (
       record {
         member = refl;
@@ -154,29 +132,21 @@ ok_require b r h = rw h
 ok_choose : {A : Type 0} (test : A → Bool) (o : Option A) (r : Reason) (x : A) → o ≡ Some x → test x ≡ true → choose test o r ≡ Ok x
 ok_choose test o r x h i = rw (h, i)
 
-abbrev asked : Kind → TimeInForce → ℕ → Result (Option Sessions) Refusal
-asked k x n = cond (eqb n 0) (Ok None) (choose (λ _. may_designate k x) (option_map Some (named designation_of all_sessions n)) DesignationNotAllowed)
-
-ok_asked : (k : Kind) (x : TimeInForce) (n : ℕ) (s : Sessions) → leb 1 n ≡ true → named designation_of all_sessions n ≡ Some s → may_designate k x ≡ true →
-    asked k x n ≡ Ok (Some s)
-ok_asked k x n s i h m = let z : eqb n 0 ≡ false = grind (arith, nat_tests) in rw (z, h, m)
-
-ok_designation : (k : Kind) (x : TimeInForce) (d : Option Sessions) → designation_fits k x d ≡ true → asked k x (number_of d) ≡ Ok d
+ok_designation : (k : Kind) (x : TimeInForce) (d : Option Sessions) → designation_fits k x d ≡ true →
+    asked k x (eqb (number_of d) 0) (named designation_of all_sessions (number_of d)) ≡ Ok d
 ok_designation k x None h = refl
-ok_designation k x (Some s) h =
-    let c = and_parts (may_designate k x) (leb 1 (designation_of s)) h in
-    ok_asked k x (designation_of s) s c.1 (sessions_back s.opening s.core s.late) c.0
+ok_designation k x (Some s) h = let back = sessions_back s.opening s.core s.late in grind (arith, nat_tests)
 
 pub fitting : (t : Text) (e : Entry) (x : CheckedEntry) → Says e x → Fits t x → form t e ≡ Ok x
 fitting t e x s f =
     ok_bind (side_check e) _ x.side x (rw (← s.side, side_back x.side)) (
     ok_bind (price_check e) _ tt x (ok_require (in_bounds e.price) PriceOutOfRange (rw (← s.price) f.price)) (
     ok_bind (quantity_check e) _ tt x (ok_require (in_bounds e.quantity) QuantityOutOfRange (rw (← s.quantity) f.quantity)) (
-    ok_bind (kind_check t e) _ x.kind x (ok_choose t.kinds (named kind_letter kinds e.kind) KindNotAllowed x.kind (rw (← s.kind) (kind_back x.kind)) f.kind) (
-    ok_bind (minimum_check x.kind e) _ tt x (ok_require (minimum_fits x.kind e.minimum e.quantity) MinimumNotAllowed (rw (← s.minimum, ← s.quantity) f.minimum)) (
-    ok_bind (time_check t x.kind e) _ x.time x
-    (ok_choose (λ z. t.times z && time_fits x.kind z) (named time_letter times e.time) TimeNotAllowed x.time (rw (← s.time) (time_back x.time)) (rw (f.time, f.time_of_kind))) (
-    ok_bind (designation_check x.kind x.time e) _ x.designation x (rw (← s.designation) (ok_designation x.kind x.time x.designation f.designation)) (
+    ok_bind (kind_check t e) _ x.terms.kind x (ok_choose t.kinds (named kind_letter kinds e.kind) KindNotAllowed x.terms.kind (rw (← s.kind) (kind_back x.terms.kind)) f.kind) (
+    ok_bind (minimum_check x.terms.kind e) _ tt x (ok_require (minimum_fits x.terms.kind e.minimum e.quantity) MinimumNotAllowed (rw (← s.minimum, ← s.quantity) f.minimum)) (
+    ok_bind (time_check t x.terms.kind e) _ x.time x
+    (ok_choose (λ z. t.times z && time_fits x.terms.kind z) (named time_letter times e.time) TimeNotAllowed x.time (rw (← s.time) (time_back x.time)) (rw (f.time, f.time_of_kind))) (
+    ok_bind (designation_check x.terms.kind x.time e) _ x.designation x (rw (← s.designation) (ok_designation x.terms.kind x.time x.designation f.designation)) (
     ok_bind (date_check x.time e) _ tt x (ok_require (date_fits x.time e.date) DateNotAllowed (rw (← s.date) f.date))
     (rw (← s.member, ← s.price, ← s.quantity, ← s.minimum, ← s.date)))))))))
 
@@ -191,7 +161,7 @@ err_refuses : {A : Type 0} (why : Reason) → layer why ≡ Form → Refuses {A 
 err_refuses why h r e = let s : direct why ≡ r = cc in rw (← s) (h, refl)
 
 ok_refuses : {A : Type 0} (x : A) → Refuses (Ok x)
-ok_refuses x r e = apart _ r x (sym e)
+ok_refuses x r e = cc
 
 bind_refuses : {A B : Type 0} (m : Result A Refusal) (f : A → Result B Refusal) → Refuses m → ((x : A) → Refuses (f x)) → Refuses (◌>>=◌ m f)
 bind_refuses (Ok x) f h k r e = k x r e
@@ -202,19 +172,14 @@ require_refuses true why h = ok_refuses tt
 require_refuses false why h = err_refuses why h
 
 choose_refuses : {A : Type 0} (test : A → Bool) (o : Option A) (why : Reason) → layer why ≡ Form → Refuses (choose test o why)
-choose_refuses test None why h = err_refuses why h
-choose_refuses test (Some x) why h = chosen (test x)
-  where
-    chosen : (b : Bool) → Refuses (cond b (Ok x) (Err (direct why)))
-    chosen true = ok_refuses x
-    chosen false = err_refuses why h
+choose_refuses test None why h r e = err_refuses why h r e
+choose_refuses test (Some x) why h r e = grind (arith, nat_tests)
 
 side_refuses : (o : Option Side) → Refuses (ok_or o (direct UnknownSide))
 side_refuses None = err_refuses UnknownSide refl
 side_refuses (Some x) = ok_refuses x
 
-designation_refuses : (none : Bool) (k : Kind) (x : TimeInForce) (o : Option Sessions) →
-    Refuses (cond none (Ok None) (choose (λ _. may_designate k x) (option_map Some o) DesignationNotAllowed))
+designation_refuses : (none : Bool) (k : Kind) (x : TimeInForce) (o : Option Sessions) → Refuses (asked k x none o)
 designation_refuses true k x o = ok_refuses None
 designation_refuses false k x o = choose_refuses (λ _. may_designate k x) (option_map Some o) DesignationNotAllowed refl
 

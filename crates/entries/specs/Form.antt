@@ -7,7 +7,8 @@
 --     side_check e .. date_check x e      what each check of the entry e makes, or its refusal
 --     form t e                  the checked entry, or the refusal of the first check that fails
 -- A check is named by the field that it is about. They run in the order of their refusals' numbers, 6 to 13.
-use Rattle.std.specs.Prelude.{ℕ, Bool, true, cond, not, ◌&&◌, ◌||◌, Some, None, Ok, Err, Option, Result, ◌==◌, nat_le}
+use Rattle.std.specs.Prelude.{ℕ, Bool, true, cond, not, ◌&&◌, ◌||◌, Some, None, Ok, Err, Option, Result, ◌==◌}
+use Rattle.std.specs.Int.{is_in_range}
 use Rattle.std.specs.Option.{option_map, ok_or}
 use Rattle.orders.specs.Codes.{named}
 use Rattle.orders.specs.Letters.{kind_letter, kinds, side_letter, sides, time_letter, times}
@@ -23,18 +24,18 @@ use Rattle.orders.specs.declared.sessions.Sessions.{Sessions}
 use Rattle.orders.specs.declared.side.Side.{Side}
 use Rattle.orders.specs.declared.time.TimeInForce.{TimeInForce}
 use Rattle.orders.specs.declared.time.TimeInForce.TheVariants.{Day, GoodTillCancelled, GoodTillDate}
-use Rattle.editions.specs.Text.{Text}
+use Rattle.editions.specs.Text.{Text, terms}
 use Rattle.entries.specs.Cases.{is_day, is_kill}
 use Rattle.entries.specs.declared.checked.CheckedEntry.{CheckedEntry}
 
 infixr 10 ◌>>=◌
 abbrev pub in_bounds : ℕ → Bool
-in_bounds n = nat_le 1 n && nat_le n 1000000
+in_bounds n = is_in_range 1 1000000 n
 
 abbrev pub minimum_fits : Kind → ℕ → ℕ → Bool
 minimum_fits Limit m q = m == 0
 minimum_fits AllOrNone m q = m == 0
-minimum_fits MinimumQuantity m q = nat_le 1 m && nat_le m q
+minimum_fits MinimumQuantity m q = is_in_range 1 q m
 minimum_fits FillOrKill m q = m == 0
 
 -- D for F
@@ -98,8 +99,7 @@ checked e side kind time designation = record {
   side = side;
   price = e.price;
   quantity = e.quantity;
-  kind = kind;
-  minimum = e.minimum;
+  terms = terms kind e.minimum;
   time = time;
   designation = designation;
   date = e.date;

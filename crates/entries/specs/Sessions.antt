@@ -28,4 +28,4 @@ by_time GoodTillCancelled k p d = session_set false true false
 by_time GoodTillDate k p d = session_set false true false
 
 abbrev pub sessions_of : CheckedEntry → Phase → Sessions
-sessions_of e p = cond (is_kill e.kind) (running p) (by_time e.time e.kind p e.designation)
+sessions_of e p = cond (is_kill e.terms.kind) (running p) (by_time e.time e.terms.kind p e.designation)

@@ -32,8 +32,8 @@ pub record Says (e : Entry) (x : CheckedEntry) : Type 0 where
   pub side : side_letter x.side ≡ e.side
   pub price : x.price ≡ e.price
   pub quantity : x.quantity ≡ e.quantity
-  pub kind : kind_letter x.kind ≡ e.kind
-  pub minimum : x.minimum ≡ e.minimum
+  pub kind : kind_letter x.terms.kind ≡ e.kind
+  pub minimum : x.terms.minimum ≡ e.minimum
   pub time : time_letter x.time ≡ e.time
   pub designation : number_of x.designation ≡ e.designation
   pub date : x.date ≡ e.date
@@ -41,11 +41,11 @@ pub record Says (e : Entry) (x : CheckedEntry) : Type 0 where
 pub record Fits (t : Text) (x : CheckedEntry) : Type 0 where
   pub price : in_bounds x.price ≡ true
   pub quantity : in_bounds x.quantity ≡ true
-  pub kind : t.kinds x.kind ≡ true
-  pub minimum : minimum_fits x.kind x.minimum x.quantity ≡ true
+  pub kind : t.kinds x.terms.kind ≡ true
+  pub minimum : minimum_fits x.terms.kind x.terms.minimum x.quantity ≡ true
   pub time : t.times x.time ≡ true
-  pub time_of_kind : time_fits x.kind x.time ≡ true
-  pub designation : designation_fits x.kind x.time x.designation ≡ true
+  pub time_of_kind : time_fits x.terms.kind x.time ≡ true
+  pub designation : designation_fits x.terms.kind x.time x.designation ≡ true
   pub date : date_fits x.time x.date ≡ true
 
 pub record ExactlyFitting (t : Text) : Type 0 where

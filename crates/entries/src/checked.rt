@@ -1,7 +1,7 @@
 // An entry whose form was checked.
-use orders::kind::Kind;
 use orders::sessions::Sessions;
 use orders::side::Side;
+use orders::terms::Terms;
 use orders::time::TimeInForce;
 
 #[derive(Clone, Copy, PartialEq, Eq, Debug)]
@@ -11,9 +11,7 @@ pub struct CheckedEntry {
     // In thousandths of one per cent of par.
     pub price: u32,
     pub quantity: u32,
-    pub kind: Kind,
-    // The smallest fill of a minimum-quantity order, else 0.
-    pub minimum: u32,
+    pub terms: Terms,
     pub time: TimeInForce,
     // The sessions asked for, if any.
     pub designation: Option<Sessions>,

@@ -3,13 +3,13 @@ ghost use Rattle.std.specs.Prelude.{◌≡◌};
 ghost use Rattle.entries.specs.Form.{date_check, designation_check, form, in_bounds, kind_check, may_designate, minimum_check, price_check, quantity_check, require, side_check, time_check, time_fits};
 
 use crate::checked::CheckedEntry;
-use editions::constants::Set;
 use editions::edition::Edition;
 use orders::entry::Entry;
 use orders::kind::Kind;
 use orders::refusal::{Reason, Refusal};
 use orders::sessions::Sessions;
 use orders::side::Side;
+use orders::terms::Terms;
 use orders::time::TimeInForce;
 
 // The entry in checked form, or the refusal of the first check that fails.
@@ -29,8 +29,10 @@ pub fn check_form<E: Edition>(entry: &Entry) -> Result<CheckedEntry, Refusal>
         side,
         price: entry.price,
         quantity: entry.quantity,
-        kind,
-        minimum: entry.minimum,
+        terms: Terms {
+            kind,
+            minimum: entry.minimum,
+        },
         time,
         designation,
         date: entry.date,
@@ -41,7 +43,7 @@ pub fn check_form<E: Edition>(entry: &Entry) -> Result<CheckedEntry, Refusal>
 pub fn in_bounds(number: u32) -> bool
     ensures { result ≡ in_bounds number }
 {
-    1 <= number && number <= 1_000_000
+    (1..=1_000_000).contains(&number)
 }
 
 // Passes if the test holds.
@@ -58,7 +60,7 @@ fn require(fits: bool, reason: Reason) -> Result<(), Refusal>
 fn check_side(entry: &Entry) -> Result<Side, Refusal>
     ensures { result ≡ side_check entry.now }
 {
-    Side::from_letter(entry.side).ok_or(Refusal::direct(Reason::UnknownSide))
+    Side::try_from(entry.side).map_err(|_| Refusal::direct(Reason::UnknownSide))
 }
 
 fn check_price(entry: &Entry) -> Result<(), Refusal>
@@ -76,17 +78,17 @@ fn check_quantity(entry: &Entry) -> Result<(), Refusal>
 fn check_kind<E: Edition>(entry: &Entry) -> Result<Kind, Refusal>
     ensures { result ≡ kind_check E.Edition.text entry.now }
 {
-    match Kind::from_letter(entry.kind) {
-        Some(kind) if E::KINDS.has(kind) => Ok(kind),
-        _ => Err(Refusal::direct(Reason::KindNotAllowed)),
-    }
+    Kind::try_from(entry.kind)
+        .ok()
+        .filter(|&kind| E::KINDS.contains(kind))
+        .ok_or(Refusal::direct(Reason::KindNotAllowed))
 }
 
 fn check_minimum(entry: &Entry, kind: Kind) -> Result<(), Refusal>
     ensures { result ≡ minimum_check kind entry.now }
 {
     let fits = match kind {
-        Kind::MinimumQuantity => 1 <= entry.minimum && entry.minimum <= entry.quantity,
+        Kind::MinimumQuantity => (1..=entry.quantity).contains(&entry.minimum),
         _ => entry.minimum == 0,
     };
     require(fits, Reason::MinimumNotAllowed)
@@ -95,20 +97,17 @@ fn check_minimum(entry: &Entry, kind: Kind) -> Result<(), Refusal>
 fn check_time<E: Edition>(entry: &Entry, kind: Kind) -> Result<TimeInForce, Refusal>
     ensures { result ≡ time_check E.Edition.text kind entry.now }
 {
-    match TimeInForce::from_letter(entry.time) {
-        Some(time) if E::TIMES.has(time) && time_fits(kind, time) => Ok(time),
-        _ => Err(Refusal::direct(Reason::TimeNotAllowed)),
-    }
+    TimeInForce::try_from(entry.time)
+        .ok()
+        .filter(|&time| E::TIMES.contains(time) && time_fits(kind, time))
+        .ok_or(Refusal::direct(Reason::TimeNotAllowed))
 }
 
 // F is for the day alone.
 fn time_fits(kind: Kind, time: TimeInForce) -> bool
     ensures { result ≡ time_fits kind time }
 {
-    match kind {
-        Kind::FillOrKill => matches!(time, TimeInForce::Day),
-        _ => true,
-    }
+    kind != Kind::FillOrKill || time == TimeInForce::Day
 }
 
 fn check_designation(
@@ -121,28 +120,25 @@ fn check_designation(
     if entry.designation == 0 {
         return Ok(None);
     }
-    match Sessions::from_designation(entry.designation) {
-        Some(sessions) if may_designate(kind, time) => Ok(Some(sessions)),
-        _ => Err(Refusal::direct(Reason::DesignationNotAllowed)),
-    }
+    Sessions::try_from(entry.designation)
+        .ok()
+        .filter(|_| may_designate(kind, time))
+        .map(Some)
+        .ok_or(Refusal::direct(Reason::DesignationNotAllowed))
 }
 
 // Only a day order may ask for sessions, and none of kind F.
 fn may_designate(kind: Kind, time: TimeInForce) -> bool
     ensures { result ≡ may_designate kind time }
 {
-    match kind {
-        Kind::FillOrKill => false,
-        _ => matches!(time, TimeInForce::Day),
-    }
+    kind != Kind::FillOrKill && time == TimeInForce::Day
 }
 
 fn check_date(entry: &Entry, time: TimeInForce) -> Result<(), Refusal>
     ensures { result ≡ date_check time entry.now }
 {
-    let fits = match time {
-        TimeInForce::GoodTillDate => true,
-        _ => entry.date == 0,
-    };
-    require(fits, Reason::DateNotAllowed)
+    require(
+        time == TimeInForce::GoodTillDate || entry.date == 0,
+        Reason::DateNotAllowed,
+    )
 }

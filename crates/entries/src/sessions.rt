@@ -33,7 +33,7 @@ impl CheckedEntry {
     pub fn sessions(&self, phase: Phase) -> Sessions
         ensures { result ≡ sessions_of self.now phase }
     {
-        match (self.time, self.kind, phase, self.designation) {
+        match (self.time, self.terms.kind, phase, self.designation) {
             (_, Kind::FillOrKill, phase, _) => running(phase),
             (TimeInForce::Day, _, _, Some(designated)) => designated,
             (TimeInForce::Day, kind, Phase::Opening, None) if is_conditional(kind) => Sessions {

@@ -3,14 +3,12 @@
 --     price_text p       a price with its three decimals
 --     printable b        b is the code of a printable ASCII character
 --     letter_text b      a printable character as itself, another byte as \x and two hexadecimal digits
---     entry_text e, cancel_text c, refusal_text r      the line of each; terms_text e is an entry's second half
+--     entry_text e, cancel_text c      the line of each; terms_text e is an entry's second half
 --     item_text i        the line of what stands on the wire
 use Rattle.std.specs.Prelude.{ℕ, ◌/◌, ◌%◌, Bool, false, cond, ◌&&◌, List, [], ◌∷◌, ◌++◌, codes, decimal, nat_le}
 use Rattle.std.specs.Fmt.{digit_glyph}
 use Rattle.orders.specs.declared.entry.Cancel.{Cancel}
 use Rattle.orders.specs.declared.entry.Entry.{Entry}
-use Rattle.orders.specs.declared.refusal.Refusal.{Refusal}
-use Rattle.orders.specs.Refusals.{layer, layer_number, reason_number}
 use Rattle.wire.specs.Fields.{cancel_of, entry_of}
 use Rattle.wire.specs.Stream.{Item, cancel, entry, turn}
 
@@ -47,13 +45,6 @@ entry_text e = text (
 
 abbrev pub cancel_text : Cancel → List ℕ
 cancel_text c = text (codes "CX member " ∷ decimal c.member ∷ codes ", serial " ∷ decimal c.serial ∷ [])
-
-abbrev pub refusal_text : Refusal → List ℕ
-refusal_text r = text (
-    codes "refused " ∷ decimal (reason_number r.reason)
-    ∷ codes ", layer " ∷ decimal (layer_number (layer r.reason))
-    ∷ codes ", place " ∷ decimal r.place
-    ∷ [])
 
 abbrev pub item_text : Item → List ℕ
 item_text (entry bytes) = entry_text (entry_of bytes)

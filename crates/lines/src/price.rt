@@ -12,10 +12,6 @@ impl fmt::Display for Price {
     ghost output = { λ p. Some (price_text p.0) };
 
     fn fmt<W: fmt::Write>(&self, f: &mut fmt::Formatter<W>) -> fmt::Result {
-        let whole = self.0 / 1000;
-        let tenths = self.0 / 100 % 10;
-        let hundredths = self.0 / 10 % 10;
-        let thousandths = self.0 % 10;
-        write!(f, "{whole}.{tenths}{hundredths}{thousandths}")
+        write!(f, "{}.{:03}", self.0 / 1000, self.0 % 1000)
     }
 }

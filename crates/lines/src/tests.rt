@@ -6,29 +6,31 @@ use std::test::Fail;
 #[test]
 fn prices_have_three_decimals(rt: HostRuntime) -> Result<(), Fail> {
     let heap = rt.alloc();
-    assert_eq!(rt; format!(in heap; "{}", Price(101_250))?.as_str(), "101.250");
-    assert_eq!(rt; format!(in heap; "{}", Price(0))?.as_str(), "0.000");
-    assert_eq!(rt; format!(in heap; "{}", Price(7))?.as_str(), "0.007");
-    assert_eq!(rt;
-        format!(in heap; "{}", Price(1_000_000))?.as_str(),
-        "1000.000"
-    );
-    assert_eq!(rt;
-        format!(in heap; "{}", Price(u32::MAX))?.as_str(),
-        "4294967.295"
-    );
+    for (price, text) in [
+        (101_250, "101.250"),
+        (0, "0.000"),
+        (7, "0.007"),
+        (1_000_000, "1000.000"),
+        (u32::MAX, "4294967.295"),
+    ] {
+        assert_eq!(rt; format!(in heap; "{}", Price(price))?.as_str(), text);
+    }
     Ok(())
 }
 
 #[test]
 fn other_bytes_are_shown_in_hexadecimal(rt: HostRuntime) -> Result<(), Fail> {
     let heap = rt.alloc();
-    assert_eq!(rt; format!(in heap; "{}", Letter(b'B'))?.as_str(), "B");
-    assert_eq!(rt; format!(in heap; "{}", Letter(0))?.as_str(), "\\x00");
-    assert_eq!(rt; format!(in heap; "{}", Letter(31))?.as_str(), "\\x1f");
-    assert_eq!(rt; format!(in heap; "{}", Letter(32))?.as_str(), " ");
-    assert_eq!(rt; format!(in heap; "{}", Letter(126))?.as_str(), "~");
-    assert_eq!(rt; format!(in heap; "{}", Letter(127))?.as_str(), "\\x7f");
-    assert_eq!(rt; format!(in heap; "{}", Letter(255))?.as_str(), "\\xff");
+    for (letter, text) in [
+        (b'B', "B"),
+        (0, "\\x00"),
+        (31, "\\x1f"),
+        (32, " "),
+        (126, "~"),
+        (127, "\\x7f"),
+        (255, "\\xff"),
+    ] {
+        assert_eq!(rt; format!(in heap; "{}", Letter(letter))?.as_str(), text);
+    }
     Ok(())
 }

@@ -5,7 +5,7 @@ ghost use Rattle.shelves.specs.Puts.{put_answer};
 
 use crate::rank::Rank;
 use crate::shelf::{PutRefusal, Shelf, check_put};
-use crate::slots::Slots;
+use crate::slots::{Slots, Vacant};
 use orders::order::Order;
 use orders::terms::Terms;
 use std::marker::PhantomData;
@@ -19,12 +19,14 @@ pub struct Ranked<S: Slots, R: Rank> {
 
 impl<S: Slots, R: Rank> Ranked<S, R> {
     // An empty shelf with as many places as there are slots in the memory, whatever these hold.
-    pub fn new(memory: S::Memory) -> Ranked<S, R>
+    pub fn new<M>(memory: M) -> Ranked<S, R>
+    where
+        S: Vacant<M>,
         ensures orders { S.orders result.slots ≡ [] }
         ensures room { S.room result.slots ≡ S.size memory }
     {
         Ranked {
-            slots: S::new(memory),
+            slots: S::vacant(memory),
             rank: PhantomData,
         }
     }

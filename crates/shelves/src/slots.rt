@@ -9,12 +9,6 @@ use orders::order::Order;
 use orders::terms::Terms;
 
 pub trait Slots: Drop {
-    // What the slots lie in.
-    type Memory;
-
-    // How many slots lie in it.
-    ghost size: { Self.Memory → ℕ };
-
     // The orders, by place.
     ghost orders: { Self → List Order };
 
@@ -23,11 +17,6 @@ pub trait Slots: Drop {
 
     // There are at most as many orders as slots.
     ghost fits: { (s : Self) → length (orders s) ≤ room s };
-
-    // Free slots, whatever they hold.
-    fn new(memory: Self::Memory) -> Self
-        ensures orders { orders result ≡ [] }
-        ensures room { room result ≡ size memory };
 
     fn count(&self) -> usize
         ensures { result ≡ length (orders self.now) };
@@ -62,4 +51,15 @@ pub trait Slots: Drop {
         requires { place < length (orders self.old) }
         ensures orders { orders self.new ≡ rewritten (orders self.old) place balance terms }
         ensures room { room self.new ≡ room self.old };
+}
+
+// Slots that can be made over memory of the type M.
+pub trait Vacant<M>: Slots {
+    // How many slots the memory has.
+    ghost size: { M → ℕ };
+
+    // All slots of the memory, without an order, whatever they hold.
+    fn vacant(memory: M) -> Self
+        ensures orders { Self.orders result ≡ [] }
+        ensures room { Self.room result ≡ size memory };
 }

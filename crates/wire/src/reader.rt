@@ -1,8 +1,8 @@
 // The reader covers the caller's bytes and remembers how far it has come.
 ghost use Rattle.std.specs.Prelude.{◌≤◌, length};
 
-pub mod making;
-pub mod reading;
+mod making;
+mod reading;
 
 #[derive(Drop)]
 pub struct Reader<'a> {

@@ -4,41 +4,36 @@ ghost use Rattle.wire.specs.Stream.{front, item_of, seen, size};
 
 use orders::refusal::Reason;
 
-#[derive(Clone, Copy)]
+#[derive(Clone, Copy, PartialEq, Eq, Debug)]
 pub enum Record<'a> {
     Enter(&'a [u8; 24]),
     Cancel(&'a [u8; 12]),
     Turn,
 }
 
-impl<'a> Record<'a> {
+impl Record<'_> {
     // How many bytes the record takes, its mark with them.
     pub fn size(self) -> usize
         ensures { result ≡ size (item_of self.entry) }
     {
         match self {
-            Record::Enter(_) => 26,
-            Record::Cancel(_) => 14,
+            Record::Enter(fields) => 2 + fields.len(),
+            Record::Cancel(fields) => 2 + fields.len(),
             Record::Turn => 2,
         }
     }
 }
 
 // The record at the front of the bytes, none where there are no bytes, or why there is none.
-pub fn first<'a>(bytes: &'a [u8]) -> Result<Option<Record<'a>>, Reason>
+pub fn first(bytes: &[u8]) -> Result<Option<Record<'_>>, Reason>
     ensures { seen result ≡ front bytes.now }
 {
-    match bytes {
-        [] => Ok(None),
-        [b'E', b'N', body @ ..] => match body.first_chunk::<24>() {
-            Some(fields) => Ok(Some(Record::Enter(fields))),
-            None => Err(Reason::CutShort),
-        },
-        [b'C', b'X', body @ ..] => match body.first_chunk::<12>() {
-            Some(fields) => Ok(Some(Record::Cancel(fields))),
-            None => Err(Reason::CutShort),
-        },
-        [b'T', b'U', ..] => Ok(Some(Record::Turn)),
-        _ => Err(Reason::UnknownMark),
-    }
+    let record = match bytes {
+        [] => return Ok(None),
+        [b'E', b'N', fields @ ..] => Record::Enter(fields.first_chunk().ok_or(Reason::CutShort)?),
+        [b'C', b'X', fields @ ..] => Record::Cancel(fields.first_chunk().ok_or(Reason::CutShort)?),
+        [b'T', b'U', ..] => Record::Turn,
+        _ => return Err(Reason::UnknownMark),
+    };
+    Ok(Some(record))
 }

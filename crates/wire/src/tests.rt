@@ -13,60 +13,42 @@ const ENTRY: &[u8; 26] = b"EN\0\0\0\x01B\0\x01\x8b\x82\0\0\0\x4bL\0\0\0\0D\x02\0
 const CANCEL: &[u8; 14] = b"CX\x01\x02\x03\x04\x05\x06\x07\x08\x09\x0a\x0b\x0c";
 
 // The next read is refused for this reason, here and again, and the reader stays.
-fn refuses(rt: &impl Abort, reader: &mut Reader, reason: Reason) -> Result<(), Fail> {
+fn refuses(rt: &impl Abort, reader: &mut Reader, reason: Reason) {
     let place = reader.position();
     for _ in 0..2 {
-        match reader.next() {
-            Err(refusal) => assert_eq!(rt; refusal, Refusal { reason, place }),
-            Ok(_) => return Err(Fail::new("a record was read")),
-        }
+        assert_eq!(rt; reader.next(), Err(Refusal { reason, place }));
         assert_eq!(rt; reader.position(), place);
     }
-    Ok(())
 }
 
-fn ends(rt: &impl Abort, reader: &mut Reader) -> Result<(), Fail> {
+fn ends(rt: &impl Abort, reader: &mut Reader) {
     let place = reader.position();
-    match reader.next() {
-        Ok(None) => {
-            assert_eq!(rt; reader.position(), place);
-            Ok(())
-        },
-        _ => Err(Fail::new("the stream goes on")),
+    assert_eq!(rt; reader.next(), Ok(None));
+    assert_eq!(rt; reader.position(), place);
+}
+
+#[test]
+fn empty_stream_ends(rt: HostRuntime) {
+    ends(&rt, &mut Reader::new(b""));
+}
+
+#[test]
+fn one_byte_is_no_mark(rt: HostRuntime) {
+    refuses(&rt, &mut Reader::new(b"E"), Reason::UnknownMark);
+}
+
+#[test]
+fn unknown_mark_is_refused(rt: HostRuntime) {
+    for stream in [b"NE and more", b"EX and more", b"en and more"] {
+        refuses(&rt, &mut Reader::new(stream), Reason::UnknownMark);
     }
 }
 
-fn turns(reader: &mut Reader) -> Result<(), Fail> {
-    match reader.next() {
-        Ok(Some(Record::Turn)) => Ok(()),
-        _ => Err(Fail::new("no turn was read")),
+#[test]
+fn cut_records_are_refused(rt: HostRuntime) {
+    for stream in [&ENTRY[..25], &ENTRY[..2], &CANCEL[..13]] {
+        refuses(&rt, &mut Reader::new(stream), Reason::CutShort);
     }
-}
-
-#[test]
-fn empty_stream_ends(rt: HostRuntime) -> Result<(), Fail> {
-    ends(&rt, &mut Reader::new(b""))
-}
-
-#[test]
-fn one_byte_is_no_mark(rt: HostRuntime) -> Result<(), Fail> {
-    refuses(&rt, &mut Reader::new(b"E"), Reason::UnknownMark)
-}
-
-#[test]
-fn unknown_mark_is_refused(rt: HostRuntime) -> Result<(), Fail> {
-    refuses(&rt, &mut Reader::new(b"NE and more"), Reason::UnknownMark)?;
-    refuses(&rt, &mut Reader::new(b"EX and more"), Reason::UnknownMark)?;
-    refuses(&rt, &mut Reader::new(b"en and more"), Reason::UnknownMark)
-}
-
-#[test]
-fn cut_records_are_refused(rt: HostRuntime) -> Result<(), Fail> {
-    let entry: &[u8] = ENTRY;
-    refuses(&rt, &mut Reader::new(&entry[0..25]), Reason::CutShort)?;
-    refuses(&rt, &mut Reader::new(&entry[0..2]), Reason::CutShort)?;
-    let cancel: &[u8] = CANCEL;
-    refuses(&rt, &mut Reader::new(&cancel[0..13]), Reason::CutShort)
 }
 
 #[test]
@@ -88,7 +70,8 @@ fn entry_is_read(rt: HostRuntime) -> Result<(), Fail> {
     };
     assert_eq!(rt; fields::entry(bytes), wanted);
     assert_eq!(rt; reader.position(), 26);
-    ends(&rt, &mut reader)
+    ends(&rt, &mut reader);
+    Ok(())
 }
 
 #[test]
@@ -122,15 +105,16 @@ fn cancel_is_read(rt: HostRuntime) -> Result<(), Fail> {
     };
     assert_eq!(rt; fields::cancel(bytes), wanted);
     assert_eq!(rt; reader.position(), 14);
-    ends(&rt, &mut reader)
+    ends(&rt, &mut reader);
+    Ok(())
 }
 
 #[test]
-fn two_records_and_a_cut_third(rt: HostRuntime) -> Result<(), Fail> {
+fn two_records_and_a_cut_third(rt: HostRuntime) {
     let mut reader = Reader::new(b"TUTUCX\0\0\0\x01");
-    turns(&mut reader)?;
-    assert_eq!(rt; reader.position(), 2);
-    turns(&mut reader)?;
-    assert_eq!(rt; reader.position(), 4);
-    refuses(&rt, &mut reader, Reason::CutShort)
+    for position in [2, 4] {
+        assert_eq!(rt; reader.next(), Ok(Some(Record::Turn)));
+        assert_eq!(rt; reader.position(), position);
+    }
+    refuses(&rt, &mut reader, Reason::CutShort);
 }

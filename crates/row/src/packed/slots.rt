@@ -5,9 +5,9 @@ ghost use Rattle.row.specs.Packed.{front, front_within, room};
 use super::Packed;
 use orders::order::Order;
 use orders::terms::Terms;
-use shelves::slots::Slots;
+use shelves::slots::{Slots, Vacant};
 
-impl<'a> Packed<'a> {
+impl Packed<'_> {
     fn orders(&self) -> &[Order]
         ensures { result.now ≡ front self.now }
     {
@@ -15,20 +15,20 @@ impl<'a> Packed<'a> {
     }
 }
 
-impl<'a> Slots for Packed<'a> {
-    type Memory = &'a mut [Order];
-
+impl<'a> Vacant<&'a mut [Order]> for Packed<'a> {
     ghost size = { λ m. length m.now };
 
+    fn vacant(at: &'a mut [Order]) -> Packed<'a> {
+        Packed { at, used: 0 }
+    }
+}
+
+impl Slots for Packed<'_> {
     ghost orders = { front };
 
     ghost room = { room };
 
     ghost fits = { λ s. front_within s };
-
-    fn new(at: &'a mut [Order]) -> Packed<'a> {
-        Packed { at, used: 0 }
-    }
 
     fn count(&self) -> usize {
         self.orders().len()

@@ -16,14 +16,11 @@ impl<'a> Reader<'a> {
         ensures bytes { bytes self.new ≡ bytes self.old }
     {
         let place = self.at;
-        match first(self.rest()) {
-            Ok(Some(record)) => {
-                self.at += record.size();
-                Ok(Some(record))
-            }
-            Ok(None) => Ok(None),
-            Err(reason) => Err(Refusal { reason, place }),
+        let record = first(self.rest()).map_err(|reason| Refusal { reason, place })?;
+        if let Some(record) = record {
+            self.at += record.size();
         }
+        Ok(record)
     }
 
     // The bytes that it has not read.

@@ -3,7 +3,7 @@ use Rattle.wire.specs.Reading.{bytes, position}
 use Rattle.desk.specs.Listing.{Records}
 use Rattle.desk.proofs.listing.list.Given as goal
 
--- the records so far stand before the position, each in two bytes or more
+-- the records so far stand before the position, each in a byte or more
 abbrev pub invariant-loop-records : goal.invariant-loop-records
 invariant-loop-records l = (bytes l.reader ≡ l.input) × Records l.input l.records (position l.reader) × (l.records ≤ position l.reader)
 

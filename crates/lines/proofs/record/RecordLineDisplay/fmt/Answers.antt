@@ -1,4 +1,5 @@
-use Rattle.std.proofs.Common.{◌≡◌, ℕ, List, sym, ap, ◌∙◌}
+use Rattle.std.proofs.Common.{◌≡◌, ℕ, List, sym, refl, ap, ◌∙◌, append_assoc}
+use Rattle.std.proofs.Output.{has_written_of_eq}
 use Rattle.orders.specs.declared.entry.Entry.{Entry}
 use Rattle.wire.specs.Fields.{entry_of}
 use Rattle.wire.specs.Stream.{Item, entry, item_of}
@@ -10,4 +11,6 @@ of_fields : (e : Entry) (l : List ℕ) (i : Item) → e ≡ entry_of l → i ≡
 of_fields e l i fields is = ap entry_text fields ∙ ap item_text (sym is)
 
 pub returns-in-Enter-clause-writes : goal.returns-in-Enter-clause-writes
-returns-in-Enter-clause-writes g c = rw (of_fields _ _ _ c.entry.ensures (ap item_of c.in-Enter.is)) at c.write.ensures.writes
+returns-in-Enter-clause-writes g c =
+    rw (← of_fields _ _ _ c.entry-member.ensures (ap item_of c.in-Enter.is))
+    (λ plain ok. has_written_of_eq _ _ _ _ _ (simp append_assoc refl) (c.write.ensures.writes plain ok))

@@ -1,6 +1,0 @@
-use Rattle.std.proofs.Common.{refl, arith}
-use Rattle.chain.proofs.Moves.{parted_new}
-use Rattle.chain.proofs.Chain.new.Goals as goal
-
-pub invariant_of-result : goal.invariant_of-result
-invariant_of-result g c = record { fits = omega arith; sound = parted_new c.link_up.new.at c.link_up.ensures; apart = refl }
