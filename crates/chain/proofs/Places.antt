@@ -36,9 +36,6 @@ module _ (t : Linked) where
   pub next_slot : (p : ℕ) → p + 1 < t.used → slot t (p + 1) ≡ next t.at.now (slot t p)
   next_slot = follows t.at.now t.used t.head
 
-  pub slot_within : (p : ℕ) → p < t.used → slot t p < room t
-  slot_within = inside
-
   pub next_within : (p : ℕ) → p + 1 < t.used → next t.at.now (slot t p) < room t
   next_within p h = let e = next_slot p h in let i = inside (p + 1) h in omega arith
 
@@ -49,4 +46,4 @@ module _ (t : Linked) where
       let there : i ≡ slot t (suc p) = same ∙ ap (next s) e ∙ sym (next_slot p h) ∙ ap (slot t) (add-one p) in
       once_apart (trail s t.used t.head) p (once_used s t.used t.head t.free t.sound) (omega arith) (sym e ∙ there)
 
-pub ruleset places = (length-set, length-ahead, at_within, inside_ahead, length-held, inside, free_slot, head_slot, head_within, next_slot, slot_within, next_within)
+pub ruleset places = (length-set, length-ahead, at_within, inside_ahead, length-held, inside, free_slot, head_slot, head_within, next_slot, next_within)

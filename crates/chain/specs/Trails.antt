@@ -44,6 +44,7 @@ Inside s n i = (p : ℕ) → p < n → slice_index (trail s n i) p < length s
 abbrev pub Parted : List Link → ℕ → ℕ → ℕ → Type 0
 Parted s n h f = (k : ℕ) → times k (trail s n h) + times k (trail s (length s - n) f) ≡ cond (nat_lt k (length s)) 1 0
 
+-- there are at most as many orders as slots
 pub length-along : (s : List Link) (n i : ℕ) → length (along s n i) ≡ n
 length-along s zero i = refl
 length-along s (suc n) i = ap suc (length-along s n (next s i))

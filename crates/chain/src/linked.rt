@@ -1,5 +1,5 @@
-// Linked slots: the orders are linked in the order of their places, and the free slots among
-// themselves.
+// Linked slots: those of the orders are linked in the order of the places, the free ones in any
+// order, so no order is moved.
 #![tactic(auto, using(crate::proofs::Places::places))]
 
 ghost use Rattle.std.specs.Prelude.{◌≡◌, ◌<◌, ◌≤◌, length};
@@ -14,12 +14,14 @@ use shelves::slots::{Slots, Vacant};
 #[derive(Drop)]
 pub struct Linked<'a> {
     at: &'a mut [Link],
+    // How many slots hold orders.
     used: usize,
     // The slot of the first order, if there is one.
     head: usize,
     // The first free slot, if there is one.
     free: usize,
     ghost fits: { used ≤ length at.now },
+    // No slot is lost and none is used twice.
     ghost sound: { Parted at.now used head free },
 }
 
@@ -43,6 +45,7 @@ impl Linked<'_> {
         ensures slot { result ≡ slot self.now place }
         ensures within { result < room self.now }
     {
+        // No `fold`: its closure could not show that each slot is inside.
         let mut at = self.head;
         for _ in 0..place {
             at = self.at[at].next;
@@ -103,6 +106,7 @@ impl Slots for Linked<'_> {
             self.head = slot;
         } else {
             let prev = self.slot(place - 1);
+            // Lent for both writes: between them the slots are not sound.
             let at = &mut *self.at;
             let next = at[prev].next;
             at[prev].next = slot;
@@ -121,6 +125,7 @@ impl Slots for Linked<'_> {
             slot
         } else {
             let prev = self.slot(place - 1);
+            // Lent for both writes, as in `insert`.
             let at = &mut *self.at;
             let slot = at[prev].next;
             at[prev].next = at[slot].next;
