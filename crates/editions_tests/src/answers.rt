@@ -25,7 +25,10 @@ const TIMES: [TimeInForce; 3] = [
 
 // Which kinds and which times an edition has.
 fn names<E: Edition>() -> ([bool; 4], [bool; 3]) {
-    (KINDS.map(has_kind::<E>), TIMES.map(has_time::<E>))
+    (
+        KINDS.map(|kind| has_kind::<E>(kind)),
+        TIMES.map(|time| has_time::<E>(time)),
+    )
 }
 
 #[test]
@@ -94,8 +97,8 @@ const MORE: [(u32, bool); 5] = [
 ];
 
 fn admits<E: Edition>(rt: &impl Abort, terms: Terms, fills: &[(u32, bool)]) {
-    for (fill, wanted) in fills {
-        assert_eq!(rt; E::admits(1000, terms, *fill), *wanted, "{}", *fill);
+    for &(fill, wanted) in fills {
+        assert_eq!(rt; E::admits(1000, terms, fill), wanted, "{fill}");
     }
 }
 
@@ -237,8 +240,8 @@ fn price_when_nothing_can_trade(rt: HostRuntime) {
         (offers, Some(101_750), Some(101_750)),
         (neither, None, None),
     ];
-    for (cut, corporate, municipal) in &cuts {
-        assert_eq!(rt; Text2016::idle_price(cut), *corporate);
-        assert_eq!(rt; Text2006::idle_price(cut), *municipal);
+    for (cut, corporate, municipal) in cuts {
+        assert_eq!(rt; Text2016::idle_price(&cut), corporate);
+        assert_eq!(rt; Text2006::idle_price(&cut), municipal);
     }
 }

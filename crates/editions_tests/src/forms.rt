@@ -64,8 +64,8 @@ fn number<E: Edition>(rt: &impl Abort, entry: &Entry) -> Option<u8> {
 // Each entry has these numbers under the texts of 2016 and of 2006.
 fn each(rt: &impl Abort, entries: &[Entry], corporate: Option<u8>, municipal: Option<u8>) {
     for (place, entry) in entries.iter().enumerate() {
-        assert_eq!(rt; number::<Text2016>(rt, entry), corporate, "{}", place);
-        assert_eq!(rt; number::<Text2006>(rt, entry), municipal, "{}", place);
+        assert_eq!(rt; number::<Text2016>(rt, entry), corporate, "{place}");
+        assert_eq!(rt; number::<Text2006>(rt, entry), municipal, "{place}");
     }
 }
 
@@ -241,14 +241,17 @@ fn checked_entry_says_what_was_sent(rt: HostRuntime) {
         date: 0,
     };
     assert_eq!(rt; check_form::<Text2016>(&sent), Ok(wanted));
-    let dated = Entry {
+}
+
+#[test]
+fn checked_dated_entry_says_what_was_sent(rt: HostRuntime) {
+    let sent = Entry {
         price: 1,
         quantity: 1,
-        time: b'G',
         date: 9,
-        ..PLAIN
+        ..DATED
     };
-    let kept = CheckedEntry {
+    let wanted = CheckedEntry {
         member: 1,
         side: Side::Buy,
         price: 1,
@@ -261,5 +264,5 @@ fn checked_entry_says_what_was_sent(rt: HostRuntime) {
         designation: None,
         date: 9,
     };
-    assert_eq!(rt; check_form::<Text2016>(&dated), Ok(kept));
+    assert_eq!(rt; check_form::<Text2016>(&sent), Ok(wanted));
 }

@@ -44,7 +44,7 @@ fn sessions_of_entries(rt: HostRuntime) -> Result<(), Fail> {
         };
         let checked = check_form::<Text2016>(&entry)?;
         let sessions = PHASES.map(|phase| u8::from(checked.sessions(phase)));
-        assert_eq!(rt; sessions, wanted, "{}", place);
+        assert_eq!(rt; sessions, wanted, "{place}");
     }
     Ok(())
 }

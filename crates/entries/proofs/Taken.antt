@@ -1,5 +1,5 @@
 -- Which entries are taken in form. Assumes nothing.
-use Rattle.std.proofs.Common.{◌≡◌, ℕ, Bool, true, false, cond, ◌&&◌, eqb, List, [], ◌∷◌, Some, None, Ok, Err, Option, Result, refl, ap, arith}
+use Rattle.std.proofs.Common.{◌≡◌, ℕ, Bool, true, false, cond, ◌&&◌, eqb, List, [], ◌∷◌, Some, None, Ok, Err, Option, Result, refl, ap, subst, arith}
 use Rattle.std.proofs.lemmas.Bool.{and_parts}
 use Rattle.std.proofs.lemmas.Bool.Decides.{nat_tests}
 use Rattle.std.specs.Option.{option_map, ok_or}
@@ -19,7 +19,7 @@ use Rattle.orders.specs.declared.side.Side.{Side}
 use Rattle.orders.specs.declared.side.Side.TheVariants.{Buy, Sell}
 use Rattle.orders.specs.declared.time.TimeInForce.{TimeInForce}
 use Rattle.orders.specs.declared.time.TimeInForce.TheVariants.{Day, GoodTillCancelled, GoodTillDate}
-use Rattle.editions.specs.Text.{Text}
+use Rattle.editions.specs.Text.{Text, terms}
 use Rattle.entries.specs.Form.{◌>>=◌, checked, choose, date_check, date_fits, designation_check, form, in_bounds, kind_check, may_designate, minimum_check, minimum_fits, price_check, quantity_check, require, side_check, time_check, time_fits}
 use Rattle.entries.specs.Taken.{Fits, RefusedByField, Says, designation_fits, number_of}
 use Rattle.entries.specs.declared.checked.CheckedEntry.{CheckedEntry}
@@ -92,7 +92,7 @@ taken t e x h =
         price = require_ok (in_bounds e.price) PriceOutOfRange _ p;
         quantity = require_ok (in_bounds e.quantity) QuantityOutOfRange _ q;
         kind = of-kind.1;
-        minimum = require_ok (minimum_fits kind e.minimum e.quantity) MinimumNotAllowed _ m;
+        minimum = require_ok (minimum_fits (terms kind e.minimum) e.quantity) MinimumNotAllowed _ m;
         time = both.0;
         time_of_kind = both.1;
         designation = asked.1;
@@ -137,13 +137,17 @@ ok_designation : (k : Kind) (x : TimeInForce) (d : Option Sessions) → designat
 ok_designation k x None h = refl
 ok_designation k x (Some s) h = let back = sessions_back s.opening s.core s.late in grind (arith, nat_tests)
 
+minimum_moves : (k : Kind) (m n q r : ℕ) → m ≡ n → q ≡ r → minimum_fits (terms k m) q ≡ true → minimum_fits (terms k n) r ≡ true
+minimum_moves k m n q r e h f =
+    subst (λ i. minimum_fits (terms k n) i ≡ true) h (subst (λ i. minimum_fits (terms k i) q ≡ true) e f)
+
 pub fitting : (t : Text) (e : Entry) (x : CheckedEntry) → Says e x → Fits t x → form t e ≡ Ok x
 fitting t e x s f =
     ok_bind (side_check e) _ x.side x (rw (← s.side, side_back x.side)) (
     ok_bind (price_check e) _ tt x (ok_require (in_bounds e.price) PriceOutOfRange (rw (← s.price) f.price)) (
     ok_bind (quantity_check e) _ tt x (ok_require (in_bounds e.quantity) QuantityOutOfRange (rw (← s.quantity) f.quantity)) (
     ok_bind (kind_check t e) _ x.terms.kind x (ok_choose t.kinds (named kind_letter kinds e.kind) KindNotAllowed x.terms.kind (rw (← s.kind) (kind_back x.terms.kind)) f.kind) (
-    ok_bind (minimum_check x.terms.kind e) _ tt x (ok_require (minimum_fits x.terms.kind e.minimum e.quantity) MinimumNotAllowed (rw (← s.minimum, ← s.quantity) f.minimum)) (
+    ok_bind (minimum_check x.terms.kind e) _ tt x (ok_require (minimum_fits (terms x.terms.kind e.minimum) e.quantity) MinimumNotAllowed (minimum_moves x.terms.kind _ _ _ _ s.minimum s.quantity f.minimum)) (
     ok_bind (time_check t x.terms.kind e) _ x.time x
     (ok_choose (λ z. t.times z && time_fits x.terms.kind z) (named time_letter times e.time) TimeNotAllowed x.time (rw (← s.time) (time_back x.time)) (rw (f.time, f.time_of_kind))) (
     ok_bind (designation_check x.terms.kind x.time e) _ x.designation x (rw (← s.designation) (ok_designation x.terms.kind x.time x.designation f.designation)) (
@@ -189,7 +193,7 @@ refused_by_field t e =
     bind_refuses (price_check e) _ (require_refuses (in_bounds e.price) PriceOutOfRange refl) (λ _.
     bind_refuses (quantity_check e) _ (require_refuses (in_bounds e.quantity) QuantityOutOfRange refl) (λ _.
     bind_refuses (kind_check t e) _ (choose_refuses t.kinds (named kind_letter kinds e.kind) KindNotAllowed refl) (λ kind.
-    bind_refuses (minimum_check kind e) _ (require_refuses (minimum_fits kind e.minimum e.quantity) MinimumNotAllowed refl) (λ _.
+    bind_refuses (minimum_check kind e) _ (require_refuses (minimum_fits (terms kind e.minimum) e.quantity) MinimumNotAllowed refl) (λ _.
     bind_refuses (time_check t kind e) _ (choose_refuses (λ x. t.times x && time_fits kind x) (named time_letter times e.time) TimeNotAllowed refl) (λ time.
     bind_refuses (designation_check kind time e) _ (designation_refuses (eqb e.designation 0) kind time (named designation_of all_sessions e.designation)) (λ designation.
     bind_refuses (date_check time e) _ (require_refuses (date_fits time e.date) DateNotAllowed refl) (λ _. ok_refuses _))))))))

@@ -1,6 +1,6 @@
 -- The checks of an entry's form, under the text t of an edition. Assumes nothing.
 --     in_bounds n               n is from 1 to 1,000,000
---     minimum_fits k m q        an entry of kind k and quantity q may have the minimum m
+--     minimum_fits x q          an entry of quantity q may have the terms x
 --     time_fits k x             an entry of kind k may have the time in force x
 --     may_designate k x         an entry of kind k and time in force x may ask for sessions
 --     date_fits x d             an entry of time in force x may have the date d
@@ -16,12 +16,13 @@ use Rattle.orders.specs.Phases.{all_sessions, designation_of}
 use Rattle.orders.specs.Refusals.{direct}
 use Rattle.orders.specs.declared.entry.Entry.{Entry}
 use Rattle.orders.specs.declared.kind.Kind.{Kind}
-use Rattle.orders.specs.declared.kind.Kind.TheVariants.{Limit, AllOrNone, MinimumQuantity, FillOrKill}
+use Rattle.orders.specs.declared.kind.Kind.TheVariants.{MinimumQuantity}
 use Rattle.orders.specs.declared.refusal.Reason.{Reason}
 use Rattle.orders.specs.declared.refusal.Reason.TheVariants.{UnknownSide, PriceOutOfRange, QuantityOutOfRange, KindNotAllowed, MinimumNotAllowed, TimeNotAllowed, DesignationNotAllowed, DateNotAllowed}
 use Rattle.orders.specs.declared.refusal.Refusal.{Refusal}
 use Rattle.orders.specs.declared.sessions.Sessions.{Sessions}
 use Rattle.orders.specs.declared.side.Side.{Side}
+use Rattle.orders.specs.declared.terms.Terms.{Terms}
 use Rattle.orders.specs.declared.time.TimeInForce.{TimeInForce}
 use Rattle.orders.specs.declared.time.TimeInForce.TheVariants.{Day, GoodTillCancelled, GoodTillDate}
 use Rattle.editions.specs.Text.{Text, terms}
@@ -32,11 +33,8 @@ infixr 10 ◌>>=◌
 abbrev pub in_bounds : ℕ → Bool
 in_bounds n = is_in_range 1 1000000 n
 
-abbrev pub minimum_fits : Kind → ℕ → ℕ → Bool
-minimum_fits Limit m q = m == 0
-minimum_fits AllOrNone m q = m == 0
-minimum_fits MinimumQuantity m q = is_in_range 1 q m
-minimum_fits FillOrKill m q = m == 0
+abbrev pub minimum_fits : Terms → ℕ → Bool
+minimum_fits x q = elim x.kind [ MinimumQuantity ↦ is_in_range 1 q x.minimum | _ ↦ x.minimum == 0 ]
 
 -- D for F
 abbrev pub time_fits : Kind → TimeInForce → Bool
@@ -73,7 +71,7 @@ abbrev pub kind_check : Text → Entry → Result Kind Refusal
 kind_check t e = choose t.kinds (named kind_letter kinds e.kind) KindNotAllowed
 
 abbrev pub minimum_check : Kind → Entry → Result (Unit {0}) Refusal
-minimum_check k e = require (minimum_fits k e.minimum e.quantity) MinimumNotAllowed
+minimum_check k e = require (minimum_fits (terms k e.minimum) e.quantity) MinimumNotAllowed
 
 abbrev pub time_check : Text → Kind → Entry → Result TimeInForce Refusal
 time_check t k e = choose (λ x. t.times x && time_fits k x) (named time_letter times e.time) TimeNotAllowed

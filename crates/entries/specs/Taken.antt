@@ -42,7 +42,7 @@ pub record Fits (t : Text) (x : CheckedEntry) : Type 0 where
   pub price : in_bounds x.price ≡ true
   pub quantity : in_bounds x.quantity ≡ true
   pub kind : t.kinds x.terms.kind ≡ true
-  pub minimum : minimum_fits x.terms.kind x.terms.minimum x.quantity ≡ true
+  pub minimum : minimum_fits x.terms x.quantity ≡ true
   pub time : t.times x.time ≡ true
   pub time_of_kind : time_fits x.terms.kind x.time ≡ true
   pub designation : designation_fits x.terms.kind x.time x.designation ≡ true
