@@ -11,6 +11,7 @@ use orders::order::Order;
 use orders::terms::Terms;
 use shelves::slots::{Slots, Vacant};
 
+// Numbers of slots and no boxes, since a shelf has no heap: its slots are the caller's.
 #[derive(Drop)]
 pub struct Linked<'a> {
     at: &'a mut [Link],

@@ -7,6 +7,7 @@ ghost use Rattle.chain.specs.Trails.{Inside};
 use crate::link::Link;
 use orders::order::Order;
 
+// A number of a slot and no reference, since slots are linked by number.
 #[derive(Drop)]
 pub(crate) struct Trail<'a> {
     pub(crate) links: &'a [Link],

@@ -37,6 +37,7 @@ fn show_next<'a>(rt: &HostRuntime, reader: &mut Reader<'a>) -> io::Result<Option
     ensures bytes { bytes reader.new ≡ bytes reader.old }
 {
     let at = reader.position();
+    // No `?`: a refusal is printed, and ends the listing as the end does.
     match reader.next() {
         Ok(Some(record)) => {
             println!(rt; "@{at} {}", RecordLine(record))?;

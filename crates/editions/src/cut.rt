@@ -11,7 +11,8 @@ pub struct Level {
 // One side of a cut.
 #[derive(Clone, Copy, PartialEq, Eq, Debug)]
 pub struct CutSide {
-    // The price of the V-th bond, or 0 where V is 0.
+    // The price of the V-th bond, or 0 where V is 0: no Option, as it is not asked for then, and each
+    // answer would have to unwrap it.
     pub last: u32,
     // The price of the bond after the V-th, if there is one.
     pub next: Option<u32>,

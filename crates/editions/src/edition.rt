@@ -31,7 +31,8 @@ pub trait Edition {
     // What it names and answers.
     ghost text: { Text };
 
-    // Whether a balance on its terms admits a fill.
+    // Whether a balance on its terms admits a fill. The two are no struct: a fill changes the balance by
+    // a subtraction and the terms by `after`, so each caller would take it apart.
     fn admits(balance: u32, terms: Terms, fill: u32) -> bool
         ensures { result ≡ text.admits balance terms fill };
 

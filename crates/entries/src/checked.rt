@@ -15,6 +15,6 @@ pub struct CheckedEntry {
     pub time: TimeInForce,
     // The sessions asked for, if any.
     pub designation: Option<Sessions>,
-    // The last day of a good-till-date order, else 0.
+    // The last day of a good-till-date order, else 0: no Option, as the time says whether there is one.
     pub date: u32,
 }

@@ -15,6 +15,7 @@ const CANCEL: &[u8; 14] = b"CX\x01\x02\x03\x04\x05\x06\x07\x08\x09\x0a\x0b\x0c";
 // The next read is refused for this reason, here and again, and the reader stays.
 fn refuses(rt: &impl Abort, reader: &mut Reader, reason: Reason) {
     let place = reader.position();
+    // The same call twice, so nothing to iterate over.
     for _ in 0..2 {
         assert_eq!(rt; reader.next(), Err(Refusal { reason, place }));
         assert_eq!(rt; reader.position(), place);
