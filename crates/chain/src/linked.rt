@@ -8,7 +8,6 @@ ghost use Rattle.chain.specs.Trails.{Parted, along_fits};
 use crate::link::{Link, link_up};
 use crate::trail::Trail;
 use orders::order::Order;
-use orders::terms::Terms;
 use shelves::slots::{Slots, Vacant};
 
 // Numbers of slots and no boxes, since a shelf has no heap: its slots are the caller's.
@@ -46,7 +45,7 @@ impl Linked<'_> {
         ensures slot { result ≡ slot self.now place }
         ensures within { result < room self.now }
     {
-        // No `fold`: its closure could not show that each slot is inside.
+        // No `fold`: tried, and its closure could not show that each slot is inside.
         let mut at = self.head;
         for _ in 0..place {
             at = self.at[at].next;
@@ -55,15 +54,13 @@ impl Linked<'_> {
     }
 }
 
-impl<'a> Vacant<&'a mut [Link]> for Linked<'a> {
+impl<'a> Vacant<'a, Link> for Linked<'a> {
     ghost use Rattle.chain.specs.Chains.{held, room};
 
-    ghost size = { λ m. length m.now };
-
-    fn vacant(memory: &'a mut [Link]) -> Linked<'a> {
-        link_up(memory);
+    fn vacant(at: &'a mut [Link]) -> Linked<'a> {
+        link_up(at);
         Linked {
-            at: memory,
+            at,
             used: 0,
             head: 0,
             free: 0,
@@ -137,13 +134,8 @@ impl Slots for Linked<'_> {
         self.used -= 1;
     }
 
-    fn renew(&mut self, place: usize, balance: u32, terms: Terms) {
+    fn set(&mut self, place: usize, order: Order) {
         let slot = self.slot(place);
-        let order = self.at[slot].order;
-        self.at[slot].order = Order {
-            balance,
-            terms,
-            ..order
-        };
+        self.at[slot].order = order;
     }
 }

@@ -9,7 +9,7 @@ use wire::reader::Reader;
 use wire::record::Record;
 
 // How far a listing came, and how many records it saw.
-#[derive(Clone, Copy)]
+#[derive(Clone, Copy, PartialEq, Eq, Debug)]
 pub struct Listing {
     pub read: usize,
     pub records: usize,

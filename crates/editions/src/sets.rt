@@ -1,4 +1,5 @@
-// Sets of kinds and of times in force, by whether each is in them.
+// Sets of kinds and of times in force, by whether each is in them. Two types and no generic one, as the
+// flags of each have names.
 ghost use Rattle.std.specs.Prelude.{◌≡◌};
 ghost use Rattle.editions.specs.Sets.{has_kind, has_time};
 

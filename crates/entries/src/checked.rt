@@ -15,6 +15,7 @@ pub struct CheckedEntry {
     pub time: TimeInForce,
     // The sessions asked for, if any.
     pub designation: Option<Sessions>,
-    // The last day of a good-till-date order, else 0: no Option, as the time says whether there is one.
+    // The last day of a good-till-date order, else 0: the number that was sent, and no Option, which
+    // would say a second time what the time says.
     pub date: u32,
 }

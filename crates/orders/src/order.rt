@@ -16,7 +16,7 @@ pub struct Order {
     pub terms: Terms,
     pub time: TimeInForce,
     pub sessions: Sessions,
-    // The last day of a good-till-date order, else 0. It is no part of the time, which a letter names
-    // without it.
+    // The last day of a good-till-date order, else 0: the number that was sent, and no Option, which
+    // would say a second time what the time says.
     pub date: u32,
 }

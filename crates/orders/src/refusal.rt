@@ -69,7 +69,7 @@ pub enum Reason {
 pub struct Refusal {
     pub reason: Reason,
     // Of a record, the offset of its first byte or of the faulty field's; of a direct call, the
-    // faulty field's number or 0.
+    // faulty field's number or 0. A number, as refusals are printed and compared by it.
     pub place: usize,
 }
 

@@ -4,7 +4,7 @@ use crate::kind::Kind;
 #[derive(Clone, Copy, PartialEq, Eq, Debug)]
 pub struct Terms {
     pub kind: Kind,
-    // The smallest fill of a minimum-quantity balance, else 0. It is no part of the kind, which a
-    // letter names without it.
+    // The smallest fill of a minimum-quantity balance, else 0. It stands in no case of the kind, which
+    // would allow less: an edition may answer, and a write may write, any minimum with any kind.
     pub minimum: u32,
 }

@@ -48,8 +48,3 @@ module _ (t : Packed) (p : ℕ) where
       let tail : drop (suc p) (take n s) ≡ mid = ap (λ k. drop k (take n s)) (sym (add-one p)) ∙ from_place s n (p + 1) (omega arith) in
       take_at (take p s ++ mid) rest (n - 1) long
       ∙ rw (before_place s n p (omega arith), tail)
-
-  pub front-renewed : (b : ℕ) (t' : Terms) → p < t.used → take t.used (rewritten t.at.now p b t') ≡ rewritten (front t) p b t'
-  front-renewed b t' h =
-      take-set-lt t.used t.at.now p _ h
-      ∙ ap (λ o. set (front t) p (renewed o b t')) (sym (get_or-take t.used t.at.now p nobody h))

@@ -1,7 +1,8 @@
 -- What a put, a take and a write keep of a shelf's list: distinct serials and rank order. Assumes nothing.
-use Rattle.std.proofs.Common.{◌≡◌, ℕ, zero, suc, ◌<◌, ◌≤◌, Bool, true, false, cond, not, ◌&&◌, ◌||◌, eqb, List, [], ◌∷◌, length, get_or, Some, None, sym, refl, ap, ◌∙◌, arith}
+use Rattle.std.proofs.Common.{◌≡◌, ℕ, zero, suc, ◌<◌, ◌≤◌, Bool, true, false, cond, not, ◌&&◌, ◌||◌, eqb, List, [], ◌∷◌, length, get_or, set, Some, None, sym, refl, ap, ◌∙◌, ⊎_elim, arith}
 use Rattle.std.specs.List.{slice_get, insert, remove}
 use Rattle.std.proofs.lemmas.List.{append-nil, drop_all, set_past, take_all}
+use Rattle.std.proofs.lemmas.Option.{get_or_from_slice_get, slice_get_cases, slice_get_within}
 use Rattle.std.proofs.lemmas.Bool.{and_parts, eqb-false, not-true, or_parts}
 use Rattle.std.proofs.lemmas.Bool.Decides.{nat_tests}
 use Rattle.orders.specs.declared.order.Order.{Order}
@@ -12,14 +13,10 @@ use Rattle.shelves.specs.Ranks.{Ranking, Standing, standing}
 
 -- whether an order stands at a place
 pub stands : (xs : List Order) (i : ℕ) (o : Order) → slice_get xs i ≡ Some o → (i < length xs) × (get_or xs i nobody ≡ o)
-stands [] i o e = let z : ◌≡◌ {A = ℕ} 0 1 = cc in absurd (omega arith)
-stands (x ∷ xs) zero o e = (omega arith, cc)
-stands (x ∷ xs) (suc i) o e = let s = stands xs i o e in (omega arith, s.1)
+stands xs i o e = (slice_get_within xs i o e, get_or_from_slice_get xs i o nobody e)
 
 past : (xs : List Order) (i : ℕ) → slice_get xs i ≡ None → length xs ≤ i
-past [] i e = omega arith
-past (x ∷ xs) zero e = let z : ◌≡◌ {A = ℕ} 0 1 = cc in absurd (omega arith)
-past (x ∷ xs) (suc i) e = let s = past xs i e in omega arith
+past xs i e = ⊎_elim (λ w. absurd (cc)) (λ w. w.0) (slice_get_cases xs i).1
 
 -- where none stands a take and a write change nothing
 pub removed-none : (xs : List Order) (i : ℕ) → slice_get xs i ≡ None → xs ≡ remove xs i
@@ -29,6 +26,10 @@ removed-none xs i e =
 
 pub rewritten-none : (xs : List Order) (i b : ℕ) (t : Terms) → slice_get xs i ≡ None → xs ≡ rewritten xs i b t
 rewritten-none xs i b t e = sym (set_past xs i _ (past xs i e))
+
+-- where one stands a write sets it anew
+pub rewritten-set : (o : Order) (xs : List Order) (i b : ℕ) (t : Terms) → slice_get xs i ≡ Some o → set xs i (renewed o b t) ≡ rewritten xs i b t
+rewritten-set o xs i b t e = ap (λ x. set xs i (renewed x b t)) (sym (get_or_from_slice_get xs i o nobody e))
 
 -- serials after a write
 pub has-rewritten : (n : ℕ) (xs : List Order) (i b : ℕ) (t : Terms) → has n (rewritten xs i b t) ≡ has n xs

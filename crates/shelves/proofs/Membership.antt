@@ -2,7 +2,7 @@
 use Rattle.std.proofs.Common.{◌≡◌, ℕ, zero, suc, ◌+◌, ◌<◌, Bool, true, not, eqb, ◌⊎◌, List, [], ◌∷◌, length, get_or, take, drop, set, Some, sum_by, sym, refl, ap, ◌∙◌, subst, inl, inr, ⊎_elim, arith}
 use Rattle.std.specs.List.{slice_get, insert, remove, AllByRecursion}
 use Rattle.std.proofs.ByRecursion.{All-append, All-drop, All-take}
-use Rattle.std.proofs.lemmas.List.Sums.{sum_by-append, sum_by-cons, sum_by-set, sum_by-take-drop}
+use Rattle.std.proofs.lemmas.List.Sums.{sum_by-insert, sum_by-remove, sum_by-set}
 use Rattle.std.proofs.lemmas.Bool.{and_parts, both_ways, eq-eqb, not-true, or_left, or_right}
 use Rattle.orders.specs.declared.order.Order.{Order}
 use Rattle.orders.specs.declared.terms.Terms.{Terms}
@@ -26,7 +26,7 @@ in-has x (y ∷ ys) (inl e) = or_left (eqb y.serial x.serial) (has x.serial ys) 
 in-has x (y ∷ ys) (inr m) = or_right (eqb y.serial x.serial) (has x.serial ys) (in-has x ys m)
 
 pub in-nth : (o : Order) (xs : List Order) (i : ℕ) → slice_get xs i ≡ Some o → In o xs
-in-nth o [] i e = let z : ◌≡◌ {A = ℕ} 0 1 = cc in absurd (omega arith)
+in-nth o [] i e = absurd (cc)
 in-nth o (x ∷ xs) zero e = let q : o ≡ x = cc in inl q
 in-nth o (x ∷ xs) (suc i) e = inr (in-nth o xs i e)
 
@@ -50,7 +50,7 @@ module _ (x o : Order) where
   inserted-in (y ∷ ys) (suc i) (inr (inr m)) = inr (inserted-in ys i (inr m))
 
   in-removed : (xs : List Order) (i : ℕ) → distinct xs ≡ true → slice_get xs i ≡ Some o → In x (remove xs i) → Other o x xs
-  in-removed [] i d e m = let z : ◌≡◌ {A = ℕ} 0 1 = cc in absurd (omega arith)
+  in-removed [] i d e m = absurd (cc)
   in-removed (y ∷ ys) zero d e m = let q : y ≡ o = cc in (inr m, λ s. apart_from x y ys d m (s ∙ ap (λ (z : Order). z.serial) (sym q)))
   in-removed (y ∷ ys) (suc i) d e (inl q) =
       (inl q, λ s. apart_from o y ys d (in-nth o ys i e) (sym s ∙ ap (λ (z : Order). z.serial) q))
@@ -59,7 +59,7 @@ module _ (x o : Order) where
       (inr r.0, r.1)
 
   removed-in : (xs : List Order) (i : ℕ) → slice_get xs i ≡ Some o → Other o x xs → In x (remove xs i)
-  removed-in [] i e m = let z : ◌≡◌ {A = ℕ} 0 1 = cc in absurd (omega arith)
+  removed-in [] i e m = absurd (cc)
   removed-in (y ∷ ys) zero e (inl q, n) = let p : y ≡ o = cc in absurd (n (ap (λ (z : Order). z.serial) (q ∙ p)))
   removed-in (y ∷ ys) zero e (inr m, n) = m
   removed-in (y ∷ ys) (suc i) e (inl q, n) = inl q
@@ -90,20 +90,10 @@ members before = record {
 
 module _ (f : Order → ℕ) where
   pub sum-inserted : (xs : List Order) (i : ℕ) (o : Order) → sum_by f (insert xs i o) ≡ f o + sum_by f xs
-  sum-inserted xs i o =
-      let a = sum_by-append f (take i xs) (o ∷ drop i xs) in
-      let b = sum_by-cons f o (drop i xs) in
-      let s = sum_by-take-drop f xs i in
-      omega arith
+  sum-inserted xs i o = omega (arith, sum_by-insert f xs i o)
 
   pub sum-removed : (o : Order) (xs : List Order) (i : ℕ) → slice_get xs i ≡ Some o → f o + sum_by f (remove xs i) ≡ sum_by f xs
-  sum-removed o [] i e = let z : ◌≡◌ {A = ℕ} 0 1 = cc in absurd (omega arith)
-  sum-removed o (x ∷ xs) zero e = let s = sum_by-cons f x xs in let q : x ≡ o = cc in ap (λ y. f y + sum_by f xs) (sym q) ∙ sym s
-  sum-removed o (x ∷ xs) (suc i) e =
-      let a = sum_by-cons f x xs in
-      let b = sum_by-cons f x (remove xs i) in
-      let s = sum-removed o xs i e in
-      omega arith
+  sum-removed o xs i e = let s = stands xs i o e in omega (arith, sum_by-remove f xs i nobody s.0, ap f s.1)
 
   pub sum-rewritten : (o : Order) (xs : List Order) (i b : ℕ) (t : Terms) → slice_get xs i ≡ Some o →
       f o + sum_by f (rewritten xs i b t) ≡ f (renewed o b t) + sum_by f xs

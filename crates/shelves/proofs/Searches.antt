@@ -33,13 +33,13 @@ abbrev There : ℕ → List Order → ℕ → Type 0
 There n xs i = (o : Order) × (slice_get xs i ≡ Some o) × (o.serial ≡ n)
 
 pub stands_there : (n : ℕ) (xs : List Order) (i : ℕ) → place_of n xs ≡ Some i → There n xs i
-stands_there n [] i e = let z : ◌≡◌ {A = ℕ} 0 1 = cc in absurd (omega arith)
+stands_there n [] i e = absurd (cc)
 stands_there n (x ∷ xs) i e = step (stands_there n xs) (eqb x.serial n) refl (place_of n xs) refl e
   where
     step : ((j : ℕ) → place_of n xs ≡ Some j → There n xs j) → (b : Bool) → eqb x.serial n ≡ b → (p : Option ℕ) → place_of n xs ≡ p →
         cond b (Some 0) (option_map suc p) ≡ Some i → There n (x ∷ xs) i
     step on true q p r f = let z : i ≡ 0 = cc in (x, ap (slice_get (x ∷ xs)) z, eqb-true x.serial n q)
-    step on false q None r f = let z : ◌≡◌ {A = ℕ} 0 1 = cc in absurd (omega arith)
+    step on false q None r f = absurd (cc)
     step on false q (Some j) r f =
         let z : i ≡ suc j = cc in
         let t = on j r in

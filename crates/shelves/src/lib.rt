@@ -1,4 +1,4 @@
-// Ranks, the place of a new order, and what a shelf is.
+// Ranks, what a shelf is, and the shelf over any arrangement of slots.
 #![tactic(auto)]
 
 pub mod laws;

@@ -1,4 +1,5 @@
-// Ranks: which of two orders with different serials comes first.
+// Ranks: which of two orders with different serials comes first. Not by `Ord`, since three ranks order
+// the same orders.
 ghost use Rattle.std.specs.Prelude.{◌≡◌, Bool};
 ghost use Rattle.shelves.specs.Ranks.{Ranking, Standing, bid_before, earlier, offer_before, standing, waiting_before};
 ghost use Rattle.shelves.specs.RanksLemmas.{bid_ranking, offer_ranking, waiting_ranking};

@@ -1,5 +1,5 @@
 // A shelf over any arrangement of slots: it keeps the orders in the order of a rank.
-ghost use Rattle.std.specs.Prelude.{◌≡◌, true, []};
+ghost use Rattle.std.specs.Prelude.{◌≡◌, true, [], length};
 ghost use Rattle.shelves.specs.Lists.{distinct, place_in};
 ghost use Rattle.shelves.specs.Puts.{put_answer};
 
@@ -18,15 +18,15 @@ pub struct Ranked<S: Slots, R: Rank> {
 }
 
 impl<S: Slots, R: Rank> Ranked<S, R> {
-    // An empty shelf with as many places as there are slots in the memory, whatever these hold.
-    pub fn new<M>(memory: M) -> Ranked<S, R>
+    // An empty shelf with as many places as there are slots, whatever these hold.
+    pub fn new<'a, T>(at: &'a mut [T]) -> Ranked<S, R>
     where
-        S: Vacant<M>,
+        S: Vacant<'a, T>,
         ensures orders { S.orders result.slots ≡ [] }
-        ensures room { S.room result.slots ≡ S.size memory }
+        ensures room { S.room result.slots ≡ length at.old }
     {
         Ranked {
-            slots: S::vacant(memory),
+            slots: S::vacant(at),
             rank: PhantomData,
         }
     }
@@ -38,8 +38,9 @@ impl<S: Slots, R: Rank> Ranked<S, R> {
         check_put(self.count(), self.places(), self.find(serial).is_some())
     }
 
-    // The place of a new order: behind all in front that come before it.
-    fn place(&self, new: &Order) -> usize
+    // The place of a new order: behind all in front that come before it. No binary search, as a chain
+    // has none, and the rule is for any list, in rank order or not.
+    pub fn place(&self, new: &Order) -> usize
         ensures { result ≡ place_in R.Rank.before new.now (S.orders self.now.slots) }
     {
         self.slots
@@ -88,7 +89,14 @@ impl<S: Slots, R: Rank> Shelf<R> for Ranked<S, R> {
 
     fn write(&mut self, place: usize, balance: u32, terms: Terms) -> Option<Order> {
         let written = self.show(place)?;
-        self.slots.renew(place, balance, terms);
+        self.slots.set(
+            place,
+            Order {
+                balance,
+                terms,
+                ..written
+            },
+        );
         Some(written)
     }
 }

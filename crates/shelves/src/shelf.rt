@@ -38,7 +38,7 @@ pub trait Shelf<R: Rank> {
     // The orders, by place.
     ghost orders: { Self → List Order };
 
-    // The number of places.
+    // The number of places. Each change says that it stays: an invariant would speak of one value alone.
     ghost room: { Self → ℕ };
 
     // No two orders have one serial.

@@ -1,18 +1,16 @@
 // Orders by place in a fixed number of slots. How they lie there is each arrangement's own.
-ghost use Rattle.std.specs.Prelude.{◌≡◌, ℕ, ◌<◌, ◌≤◌, Bool, [], List, length, position};
+ghost use Rattle.std.specs.Prelude.{◌≡◌, ℕ, ◌<◌, ◌≤◌, Bool, [], List, length, position, slice_set};
 ghost use Rattle.std.specs.List.{insert, remove, slice_get};
 ghost use Rattle.orders.specs.declared.order.Order.{Order};
-ghost use Rattle.shelves.specs.Lists.{rewritten};
 ghost use Rattle.shelves.specs.Tests.{Tests};
 
 use orders::order::Order;
-use orders::terms::Terms;
 
 pub trait Slots: Drop {
     // The orders, by place.
     ghost orders: { Self → List Order };
 
-    // The number of slots.
+    // The number of slots. Each change says that it stays: an invariant would speak of one value alone.
     ghost room: { Self → ℕ };
 
     // There are at most as many orders as slots.
@@ -46,20 +44,17 @@ pub trait Slots: Drop {
         ensures orders { orders self.new ≡ remove (orders self.old) place }
         ensures room { room self.new ≡ room self.old };
 
-    // Gives the order at a place a new balance and new terms.
-    fn renew(&mut self, place: usize, balance: u32, terms: Terms)
+    // Writes another order at a place.
+    fn set(&mut self, place: usize, order: Order)
         requires { place < length (orders self.old) }
-        ensures orders { orders self.new ≡ rewritten (orders self.old) place balance terms }
+        ensures orders { orders self.new ≡ slice_set (orders self.old) place order }
         ensures room { room self.new ≡ room self.old };
 }
 
-// Slots that can be made over memory of the type M.
-pub trait Vacant<M>: Slots {
-    // How many slots the memory has.
-    ghost size: { M → ℕ };
-
-    // All slots of the memory, without an order, whatever they hold.
-    fn vacant(memory: M) -> Self
+// Slots that can be made over a slice of T.
+pub trait Vacant<'a, T>: Slots {
+    // All slots of the slice, without an order, whatever they hold.
+    fn vacant(at: &'a mut [T]) -> Self
         ensures orders { Self.orders result ≡ [] }
-        ensures room { Self.room result ≡ size memory };
+        ensures room { Self.room result ≡ length at.old };
 }

@@ -4,7 +4,6 @@ ghost use Rattle.row.specs.Packed.{front, front_within, room};
 
 use super::Packed;
 use orders::order::Order;
-use orders::terms::Terms;
 use shelves::slots::{Slots, Vacant};
 
 impl Packed<'_> {
@@ -15,9 +14,7 @@ impl Packed<'_> {
     }
 }
 
-impl<'a> Vacant<&'a mut [Order]> for Packed<'a> {
-    ghost size = { λ m. length m.now };
-
+impl<'a> Vacant<'a, Order> for Packed<'a> {
     fn vacant(at: &'a mut [Order]) -> Packed<'a> {
         Packed { at, used: 0 }
     }
@@ -59,12 +56,7 @@ impl Slots for Packed<'_> {
         self.used -= 1;
     }
 
-    fn renew(&mut self, place: usize, balance: u32, terms: Terms) {
-        let old = self.at[place];
-        self.at[place] = Order {
-            balance,
-            terms,
-            ..old
-        };
+    fn set(&mut self, place: usize, order: Order) {
+        self.at[place] = order;
     }
 }
