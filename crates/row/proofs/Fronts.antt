@@ -1,13 +1,11 @@
 -- What the used slots of a row hold after each change. Assumes nothing.
-use Rattle.std.proofs.Common.{◌≡◌, ℕ, suc, ◌+◌, ◌-◌, ◌<◌, ◌≤◌, List, [], ◌∷◌, ◌++◌, length, take, drop, set, sym, ap, ◌∙◌, append_assoc, add-one, arith, length-append, length-drop, length-take, get_or-take}
+use Rattle.std.proofs.Common.{◌≡◌, ℕ, suc, ◌+◌, ◌-◌, ◌<◌, ◌≤◌, List, [], ◌∷◌, ◌++◌, length, take, drop, set, sym, ap, ◌∙◌, append_assoc, add-one, arith, length-append, length-drop, length-take}
 use lib.Seq.{take-set-lt}
 use Rattle.std.specs.List.{insert, remove}
 use Rattle.std.proofs.lemmas.List.{set-append_left, take_more_set, take_at, take-take, drop-take}
 use Rattle.orders.specs.declared.order.Order.{Order}
-use Rattle.orders.specs.declared.terms.Terms.{Terms}
 use Rattle.row.specs.declared.packed.Packed.{Packed}
 use Rattle.row.specs.Packed.{closed, front, opened, room}
-use Rattle.shelves.specs.Lists.{nobody, renewed, rewritten}
 
 -- the first n of a list at a place below n, and what its places from p on are
 module _ (s : List Order) (n p : ℕ) where

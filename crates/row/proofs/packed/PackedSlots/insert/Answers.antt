@@ -1,6 +1,6 @@
 use Rattle.std.proofs.Common.{◌+◌, take, set, ap, ◌∙◌, arith}
 use Rattle.row.proofs.Fronts.{front-opened, length_front}
-use Rattle.row.proofs.packed.slots.PackedSlots.insert.Goals as goal
+use Rattle.row.proofs.packed.PackedSlots.insert.Goals as goal
 
 pub returns-clause-orders : goal.returns-clause-orders
 returns-clause-orders c =

@@ -1,6 +1,6 @@
 use Rattle.std.proofs.Common.{◌-◌, take, ap, ◌∙◌, arith}
 use Rattle.row.proofs.Fronts.{front-closed, length_front}
-use Rattle.row.proofs.packed.slots.PackedSlots.remove.Goals as goal
+use Rattle.row.proofs.packed.PackedSlots.remove.Goals as goal
 
 pub returns-clause-orders : goal.returns-clause-orders
 returns-clause-orders c =

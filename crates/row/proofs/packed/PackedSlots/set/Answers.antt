@@ -1,7 +1,7 @@
 use Rattle.std.proofs.Common.{arith}
 use lib.Seq.{take-set-lt}
 use Rattle.row.proofs.Fronts.{length_front}
-use Rattle.row.proofs.packed.slots.PackedSlots.set.Goals as goal
+use Rattle.row.proofs.packed.PackedSlots.set.Goals as goal
 
 pub returns-clause-orders : goal.returns-clause-orders
 returns-clause-orders c =

@@ -3,7 +3,7 @@ use Rattle.std.proofs.lemmas.Iterator.{YieldsList-from_slice}
 use Rattle.std.proofs.lemmas.Iterator.Adapters.{serves_from_places}
 use Rattle.std.proofs.lemmas.Iterator.Search.{position_from_yields_List}
 use Rattle.row.specs.Packed.{front}
-use Rattle.row.proofs.packed.slots.PackedSlots.position.Goals as goal
+use Rattle.row.proofs.packed.PackedSlots.position.Goals as goal
 
 pub position-requires-clause-callable : goal.position-requires-clause-callable
 position-requires-clause-callable g c =
