@@ -7,7 +7,7 @@ use orders::order::Order;
 #[derive(Clone, Copy)]
 pub struct Link {
     pub order: Order,
-    // The number of the slot that follows.
+    // The number of the slot that follows: no box, as the slots are the caller's.
     pub next: usize,
 }
 

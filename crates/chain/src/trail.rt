@@ -7,7 +7,8 @@ ghost use Rattle.chain.specs.Trails.{Inside};
 use crate::link::Link;
 use orders::order::Order;
 
-// A number of a slot and no reference, since slots are linked by number.
+// How many orders are ahead and the number of the first one's slot, and no reference, since slots are linked
+// by number and the last order's link leads on.
 #[derive(Drop)]
 pub(crate) struct Trail<'a> {
     pub(crate) links: &'a [Link],

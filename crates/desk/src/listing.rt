@@ -8,7 +8,7 @@ use std::io;
 use wire::reader::Reader;
 use wire::record::Record;
 
-// How far a listing came, and how many records it saw.
+// How far a listing came, and how many records it saw: two counts, of no buffer.
 #[derive(Clone, Copy, PartialEq, Eq, Debug)]
 pub struct Listing {
     pub read: usize,

@@ -3,7 +3,7 @@ use orders::terms::Terms;
 use script::step::{Answer, Step};
 use std::fmt;
 
-// A type of this crate, as a step is another crate's.
+// A type of this crate, as only the drill prints steps.
 #[derive(Clone, Copy)]
 pub struct StepText(pub Step);
 

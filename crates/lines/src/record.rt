@@ -10,7 +10,7 @@ use std::fmt;
 use wire::fields;
 use wire::record::Record;
 
-// A type of this crate, as a record is another crate's.
+// A type of this crate, as `wire` prints nothing.
 #[derive(Clone, Copy)]
 pub struct RecordLine<'a>(pub Record<'a>);
 

@@ -27,7 +27,7 @@ impl From<Cause> for u8 {
     }
 }
 
-// The cause that a letter names.
+// The cause that a letter names. A match of its own: see `code`.
 impl TryFrom<u8> for Cause {
     type Error = UnknownCode;
 

@@ -1,6 +1,6 @@
 // Codes: the letters and the numbers that stand for cases. A letter is written where it is converted, since
-// `b'B' as isize` at a case is no plainer. The way back is a table for each type and no generic search:
-// that would need the cases of each type in a list, which is a table too.
+// `b'B' as isize` at a case is no plainer. The way back to an enum is a match of its own and no generic
+// search: that would need the cases of each in a list, which is as long.
 ghost use Rattle.std.specs.Prelude.{Some};
 ghost use Rattle.orders.specs.Codes.{unknown_text};
 

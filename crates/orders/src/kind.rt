@@ -27,7 +27,7 @@ impl From<Kind> for u8 {
     }
 }
 
-// The kind that a letter names.
+// The kind that a letter names. A match of its own: see `code`.
 impl TryFrom<u8> for Kind {
     type Error = UnknownCode;
 

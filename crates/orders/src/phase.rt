@@ -22,7 +22,7 @@ impl From<Phase> for u8 {
     }
 }
 
-// The phase at a place in the day.
+// The phase at a place in the day. A match of its own: see `code`.
 impl TryFrom<u8> for Phase {
     type Error = UnknownCode;
 

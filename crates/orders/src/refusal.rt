@@ -69,7 +69,7 @@ pub enum Reason {
 pub struct Refusal {
     pub reason: Reason,
     // Of a record, the offset of its first byte or of the faulty field's; of a direct call, the
-    // faulty field's number or 0. A number, as refusals are printed and compared by it.
+    // faulty field's number or 0. A number and no enum, as it is printed as one.
     pub place: usize,
 }
 
@@ -82,7 +82,7 @@ impl From<Layer> for u8 {
     }
 }
 
-// The layer that a number names.
+// The layer that a number names. A match of its own: see `code`.
 impl TryFrom<u8> for Layer {
     type Error = UnknownCode;
 
@@ -107,7 +107,7 @@ impl From<Reason> for u8 {
     }
 }
 
-// The reason that a number names.
+// The reason that a number names. A match of its own: see `code`.
 impl TryFrom<u8> for Reason {
     type Error = UnknownCode;
 
@@ -182,7 +182,7 @@ impl Reason {
 }
 
 impl Refusal {
-    // The refusal of a direct call, with the faulty field's number, or 0, as its place.
+    // The refusal of a direct call, with the faulty field's number, or 0, as its place: see `field`.
     pub fn direct(reason: Reason) -> Refusal
         ensures { result ≡ direct reason }
     {

@@ -22,7 +22,7 @@ impl From<Side> for u8 {
     }
 }
 
-// The side that a letter names.
+// The side that a letter names. A match of its own: see `code`.
 impl TryFrom<u8> for Side {
     type Error = UnknownCode;
 

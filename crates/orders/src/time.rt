@@ -24,7 +24,7 @@ impl From<TimeInForce> for u8 {
     }
 }
 
-// The time in force that a letter names.
+// The time in force that a letter names. A match of its own: see `code`.
 impl TryFrom<u8> for TimeInForce {
     type Error = UnknownCode;
 

@@ -18,7 +18,7 @@ pub fn run<R: Rank, S: Shelf<R>>(
     ensures orders { OnOk result (S.Shelf.orders shelf.new ≡ after_all R.Rank.before (S.Shelf.room shelf.old) script.now (S.Shelf.orders shelf.old)) }
 {
     let mut answers = Vec::new(heap);
-    // No `map` and `collect`: of a closure that changes the shelf a proof learns no answer.
+    // No `map` and `collect`: tried, and of a closure that changes the shelf a proof learns no answer.
     for step in script {
         go_on::<R, S>(shelf, *step, &mut answers)?;
     }
