@@ -1,3 +1,4 @@
 pub mod Places
 pub mod Moves
+pub mod Steps
 pub mod Trails

@@ -6,6 +6,7 @@ use shelves::ranked::Ranked;
 
 pub mod link;
 pub mod linked;
+mod links;
 mod trail;
 
 pub type Chain<'a, R> = Ranked<Linked<'a>, R>;

@@ -2,140 +2,134 @@
 // order, so no order is moved.
 #![tactic(auto, using(crate::proofs::Places::places))]
 
-ghost use Rattle.std.specs.Prelude.{◌≡◌, ◌<◌, ◌≤◌, length};
-ghost use Rattle.chain.specs.Trails.{Parted, along_fits};
+ghost use Rattle.std.specs.Prelude.{◌≡◌, ◌<◌, ◌≤◌};
+ghost use Rattle.chain.specs.Chains.{Sound, ahead, held, room, slot};
 
 use crate::link::{Link, link_up};
+use crate::links::Links;
 use crate::trail::Trail;
 use orders::order::Order;
+use orders::terms::Terms;
+use shelves::rank::Rank;
+use shelves::shelf::PutRefusal;
 use shelves::slots::{Slots, Vacant};
+use shelves::walk;
 
 // Numbers of slots and no boxes, since a shelf has no heap: its slots are the caller's.
 #[derive(Drop)]
 pub struct Linked<'a> {
-    at: &'a mut [Link],
-    // How many slots hold orders.
-    used: usize,
-    // The slot of the first order, if there is one.
-    head: usize,
-    // The first free slot, if there is one.
-    free: usize,
-    ghost fits: { used ≤ length at.now },
+    links: Links<'a>,
+    ghost fits: { links.used ≤ room links },
     // No slot is lost and none is used twice.
-    ghost sound: { Parted at.now used head free },
+    ghost sound: { Sound links },
 }
 
 impl Linked<'_> {
-    ghost use Rattle.chain.specs.Chains.{ahead, held, room, slot};
-
     // A walk along the orders.
     fn walk(&self) -> Trail<'_>
-        ensures { ahead result ≡ held self.now }
+        ensures { ahead result ≡ held self.now.links }
     {
         Trail {
-            links: self.at,
-            left: self.used,
-            at: self.head,
+            links: self.links.at,
+            left: self.links.used,
+            at: self.links.head,
         }
     }
 
     // The slot of the order at `place`.
     fn slot(&self, place: usize) -> usize
-        requires { place < self.now.used }
-        ensures slot { result ≡ slot self.now place }
-        ensures within { result < room self.now }
+        requires { place < self.now.links.used }
+        ensures slot { result ≡ slot self.now.links place }
+        ensures within { result < room self.now.links }
     {
         // No `fold`: tried, and its closure could not show that each slot is inside.
-        let mut at = self.head;
+        let mut at = self.links.head;
         for _ in 0..place {
-            at = self.at[at].next;
+            at = self.links.at[at].next;
         }
         at
     }
 }
 
 impl<'a> Vacant<'a, Link> for Linked<'a> {
-    ghost use Rattle.chain.specs.Chains.{held, room};
-
     fn vacant(at: &'a mut [Link]) -> Linked<'a> {
         link_up(at);
         Linked {
-            at,
-            used: 0,
-            head: 0,
-            free: 0,
+            links: Links {
+                at,
+                used: 0,
+                head: 0,
+                free: 0,
+            },
         }
     }
 }
 
 impl Slots for Linked<'_> {
-    ghost use Rattle.chain.specs.Chains.{held, room};
+    ghost use Rattle.chain.specs.Trails.{along_fits};
 
-    ghost orders = { held };
+    ghost orders = { λ s. held s.links };
 
-    ghost room = { room };
+    ghost room = { λ s. room s.links };
 
-    ghost fits = { λ s. along_fits s.at.now s.used s.head s.fits };
+    ghost fits = { λ s. along_fits s.links.at.now s.links.used s.links.head s.fits };
 
     fn count(&self) -> usize {
-        self.used
+        self.links.used
     }
 
     fn room(&self) -> usize {
-        self.at.len()
+        self.links.at.len()
     }
 
     fn get(&self, place: usize) -> Option<Order> {
-        self.walk().nth(place)
-    }
-
-    fn position<T: Fn(&Order) -> bool>(&self, test: T) -> Option<usize> {
-        self.walk().position(|order| test(&order))
-    }
-
-    fn insert(&mut self, place: usize, new: Order) {
-        let slot = self.free;
-        let rest = self.at[slot].next;
-        if place == 0 {
-            self.at[slot] = Link {
-                order: new,
-                next: self.head,
-            };
-            self.head = slot;
+        if place < self.count() {
+            Some(self.links.at[self.slot(place)].order)
         } else {
-            let prev = self.slot(place - 1);
-            // Lent for both writes: between them the slots are not sound.
-            let at = &mut *self.at;
-            let next = at[prev].next;
-            at[prev].next = slot;
-            at[slot] = Link { order: new, next };
+            None
         }
-        self.free = rest;
-        self.used += 1;
     }
 
-    fn remove(&mut self, place: usize) {
-        let slot = if place == 0 {
-            let slot = self.head;
-            let next = self.at[slot].next;
-            self.at[slot].next = self.free;
-            self.head = next;
-            slot
+    fn find(&self, serial: u64) -> Option<usize> {
+        walk::find(&mut self.walk(), serial)
+    }
+
+    fn place<R: Rank>(&self, new: &Order) -> usize {
+        walk::place::<R, Trail>(&mut self.walk(), new)
+    }
+
+    fn insert(&mut self, place: usize, new: Order) -> Result<(), PutRefusal> {
+        if self.count() >= self.room() {
+            return Err(PutRefusal::Full);
+        }
+        let place = place.min(self.count());
+        if place == 0 {
+            self.links.link_first(new);
         } else {
             let prev = self.slot(place - 1);
-            // Lent for both writes, as in `insert`.
-            let at = &mut *self.at;
-            let slot = at[prev].next;
-            at[prev].next = at[slot].next;
-            at[slot].next = self.free;
-            slot
-        };
-        self.free = slot;
-        self.used -= 1;
+            self.links.link_behind(prev, new);
+        }
+        Ok(())
     }
 
-    fn set(&mut self, place: usize, order: Order) {
+    fn remove(&mut self, place: usize) -> Option<Order> {
+        let removed = self.get(place)?;
+        if place == 0 {
+            self.links.unlink_first();
+        } else {
+            let prev = self.slot(place - 1);
+            self.links.unlink_behind(prev);
+        }
+        Some(removed)
+    }
+
+    fn write(&mut self, place: usize, balance: u32, terms: Terms) -> Option<Order> {
+        if place >= self.count() {
+            return None;
+        }
         let slot = self.slot(place);
-        self.at[slot].order = order;
+        let written = self.links.at[slot].order;
+        self.links.renew_slot(slot, balance, terms);
+        Some(written)
     }
 }

@@ -1,11 +1,11 @@
 // A walk along the orders of linked slots.
 #![tactic(auto, using(crate::proofs::Places::places))]
 
-ghost use Rattle.std.specs.Iterator.{YieldsFirst, item_count};
 ghost use Rattle.chain.specs.Trails.{Inside};
 
 use crate::link::Link;
 use orders::order::Order;
+use shelves::walk::Walk;
 
 // How many orders are ahead and the number of the first one's slot, and no reference, since slots are linked
 // by number and the last order's link leads on.
@@ -17,16 +17,16 @@ pub(crate) struct Trail<'a> {
     ghost inside: { Inside links.now left at },
 }
 
-impl Iterator for Trail<'_> {
+impl Walk for Trail<'_> {
     ghost use Rattle.chain.specs.Chains.{ahead};
 
-    type Item = Order;
+    ghost ahead = { ahead };
 
-    ghost next_gives = { YieldsFirst ahead };
+    fn left(&self) -> usize {
+        self.left
+    }
 
-    ghost remaining = { item_count ahead };
-
-    fn next(&mut self) -> Option<Order> {
+    fn step(&mut self) -> Option<Order> {
         if self.left == 0 {
             return None;
         }

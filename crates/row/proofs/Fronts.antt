@@ -1,9 +1,11 @@
 -- What the used slots of a row hold after each change. Assumes nothing.
-use Rattle.std.proofs.Common.{◌≡◌, ℕ, suc, ◌+◌, ◌-◌, ◌<◌, ◌≤◌, List, [], ◌∷◌, ◌++◌, length, take, drop, set, sym, ap, ◌∙◌, append_assoc, add-one, arith, length-append, length-drop, length-take}
+use Rattle.std.proofs.Common.{◌≡◌, ℕ, suc, ◌+◌, ◌-◌, ◌<◌, ◌≤◌, List, [], ◌∷◌, ◌++◌, length, take, drop, set, sym, ap, ◌∙◌, append_assoc, add-one, arith, length-append, length-drop, length-take, get_or-take}
 use lib.Seq.{take-set-lt}
 use Rattle.std.specs.List.{insert, remove}
 use Rattle.std.proofs.lemmas.List.{set-append_left, take_more_set, take_at, take-take, drop-take}
 use Rattle.orders.specs.declared.order.Order.{Order}
+use Rattle.orders.specs.declared.terms.Terms.{Terms}
+use Rattle.shelves.specs.Lists.{nobody, renewed, rewritten}
 use Rattle.row.specs.declared.packed.Packed.{Packed}
 use Rattle.row.specs.Packed.{closed, front, opened, room}
 
@@ -46,3 +48,8 @@ module _ (t : Packed) (p : ℕ) where
       let tail : drop (suc p) (take n s) ≡ mid = ap (λ k. drop k (take n s)) (sym (add-one p)) ∙ from_place s n (p + 1) (omega arith) in
       take_at (take p s ++ mid) rest (n - 1) long
       ∙ rw (before_place s n p (omega arith), tail)
+
+  pub front-renewed : (b : ℕ) (x : Terms) → p < t.used → take t.used (rewritten t.at.now p b x) ≡ rewritten (front t) p b x
+  front-renewed b x h =
+      take-set-lt t.used t.at.now p _ h
+      ∙ ap (λ o. set (front t) p (renewed o b x)) (sym (get_or-take t.used t.at.now p nobody h))

@@ -21,5 +21,5 @@ opened t p o = slice_set (paste t.at.now (p + 1) (drop p t.at.now) (t.used - p))
 abbrev pub closed : Packed → ℕ → List Order
 closed t p = paste t.at.now p (drop (p + 1) t.at.now) (t.used - (p + 1))
 
-pub front_within : (t : Packed) → length (front t) ≤ room t
-front_within t = simp length-take (omega arith)
+pub front_within : (s : List Order) (n : ℕ) → length (take n s) ≤ length s
+front_within s n = simp length-take (omega arith)

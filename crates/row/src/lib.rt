@@ -4,6 +4,7 @@
 use packed::Packed;
 use shelves::ranked::Ranked;
 
+mod along;
 pub mod packed;
 
 pub type Row<'a, R> = Ranked<Packed<'a>, R>;

@@ -1,9 +1,9 @@
 -- What a put, a take and a write keep of a shelf's list: distinct serials and rank order. Assumes nothing.
-use Rattle.std.proofs.Common.{◌≡◌, ℕ, zero, suc, ◌<◌, ◌≤◌, Bool, true, false, cond, not, ◌&&◌, ◌||◌, eqb, List, [], ◌∷◌, length, get_or, set, Some, None, sym, refl, ap, ◌∙◌, ⊎_elim, arith}
+use Rattle.std.proofs.Common.{◌≡◌, ℕ, zero, suc, ◌<◌, ◌≤◌, Bool, true, false, cond, not, ◌&&◌, ◌||◌, eqb, List, [], ◌∷◌, length, get_or, min, Some, None, sym, refl, ap, ◌∙◌, ⊎_elim, arith}
 use Rattle.std.specs.List.{slice_get, insert, remove}
 use Rattle.std.proofs.lemmas.List.{append-nil, drop_all, set_past, take_all}
 use Rattle.std.proofs.lemmas.Option.{get_or_from_slice_get, slice_get_cases, slice_get_within}
-use Rattle.std.proofs.lemmas.Bool.{and_parts, eqb-false, not-true, or_parts}
+use Rattle.std.proofs.lemmas.Bool.{and_parts, cases_lt, eqb-false, not-true, or_parts}
 use Rattle.std.proofs.lemmas.Bool.Decides.{nat_tests}
 use Rattle.orders.specs.declared.order.Order.{Order}
 use Rattle.orders.specs.declared.terms.Terms.{Terms}
@@ -27,9 +27,18 @@ removed-none xs i e =
 pub rewritten-none : (xs : List Order) (i b : ℕ) (t : Terms) → slice_get xs i ≡ None → xs ≡ rewritten xs i b t
 rewritten-none xs i b t e = sym (set_past xs i _ (past xs i e))
 
--- where one stands a write sets it anew
-pub rewritten-set : (o : Order) (xs : List Order) (i b : ℕ) (t : Terms) → slice_get xs i ≡ Some o → set xs i (renewed o b t) ≡ rewritten xs i b t
-rewritten-set o xs i b t e = ap (λ x. set xs i (renewed x b t)) (sym (get_or_from_slice_get xs i o nobody e))
+-- an order put behind all where fewer are there
+pub inserted-min : (xs : List Order) (p : ℕ) (o : Order) → insert xs (min p (length xs)) o ≡ insert xs p o
+inserted-min xs p o = ⊎_elim
+    (λ (h : p < length xs). ap (λ q. insert xs q o) (omega arith))
+    (λ (h : length xs ≤ p). ap (λ q. insert xs q o) (omega arith) ∙ behind xs p h)
+    (cases_lt p (length xs))
+  where
+    behind : (ys : List Order) (q : ℕ) → length ys ≤ q → insert ys (length ys) o ≡ insert ys q o
+    behind [] zero h = refl
+    behind [] (suc q) h = refl
+    behind (y ∷ ys) zero h = absurd (omega arith)
+    behind (y ∷ ys) (suc q) h = ap (λ zs. y ∷ zs) (behind ys q (omega arith))
 
 -- serials after a write
 pub has-rewritten : (n : ℕ) (xs : List Order) (i b : ℕ) (t : Terms) → has n (rewritten xs i b t) ≡ has n xs
@@ -80,6 +89,9 @@ distinct-removed (x ∷ xs) zero d = (and_parts (not (has x.serial xs)) (distinc
 distinct-removed (x ∷ xs) (suc i) d =
     let ds = and_parts (not (has x.serial xs)) (distinct xs) d in
     rw (has-removed x.serial xs i (not-true _ ds.0), distinct-removed xs i ds.1)
+
+-- for the code that takes and writes
+pub ruleset apart_kept = (distinct-removed, distinct-rewritten)
 
 pub keeps_distinct : (before : Standing → Standing → Bool) → KeepsDistinct before
 keeps_distinct before = record {

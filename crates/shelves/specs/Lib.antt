@@ -3,4 +3,3 @@ pub mod Lists
 pub mod Puts
 pub mod Ranks
 pub mod RanksLemmas
-pub mod Tests

@@ -6,3 +6,4 @@ pub mod rank;
 pub mod ranked;
 pub mod shelf;
 pub mod slots;
+pub mod walk;

@@ -38,14 +38,11 @@ impl<S: Slots, R: Rank> Ranked<S, R> {
         check_put(self.count(), self.places(), self.find(serial).is_some())
     }
 
-    // The place of a new order: behind all in front that come before it. No binary search, as a chain
-    // has none, and the rule is for any list, in rank order or not.
+    // The place of a new order: behind all in front that come before it.
     pub fn place(&self, new: &Order) -> usize
         ensures { result ≡ place_in R.Rank.before new.now (S.orders self.now.slots) }
     {
-        self.slots
-            .position(|order| !R::precedes(order, new))
-            .unwrap_or(self.count())
+        self.slots.place::<R>(new)
     }
 }
 
@@ -71,32 +68,23 @@ impl<S: Slots, R: Rank> Shelf<R> for Ranked<S, R> {
     }
 
     fn find(&self, serial: u64) -> Option<usize> {
-        self.slots.position(|order| order.serial == serial)
+        self.slots.find(serial)
     }
 
     fn put(&mut self, new: Order) -> Result<(), PutRefusal> {
         self.check(new.serial)?;
         let place = self.place(&new);
-        self.slots.insert(place, new);
-        Ok(())
+        // It answers Ok, since the check found room.
+        self.slots.insert(place, new)
     }
 
+    #[tactic(auto, using(crate::proofs::Keeping::apart_kept))]
     fn take(&mut self, place: usize) -> Option<Order> {
-        let taken = self.show(place)?;
-        self.slots.remove(place);
-        Some(taken)
+        self.slots.remove(place)
     }
 
+    #[tactic(auto, using(crate::proofs::Keeping::apart_kept))]
     fn write(&mut self, place: usize, balance: u32, terms: Terms) -> Option<Order> {
-        let written = self.show(place)?;
-        self.slots.set(
-            place,
-            Order {
-                balance,
-                terms,
-                ..written
-            },
-        );
-        Some(written)
+        self.slots.write(place, balance, terms)
     }
 }

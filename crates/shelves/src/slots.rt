@@ -1,10 +1,14 @@
 // Orders by place in a fixed number of slots. How they lie there is each arrangement's own.
-ghost use Rattle.std.specs.Prelude.{◌≡◌, ℕ, ◌<◌, ◌≤◌, Bool, [], List, length, position, slice_set};
-ghost use Rattle.std.specs.List.{insert, remove, slice_get};
+ghost use Rattle.std.specs.Prelude.{◌≡◌, ℕ, ◌≤◌, false, [], List, length, nat_le};
+ghost use Rattle.std.specs.List.{remove, slice_get};
 ghost use Rattle.orders.specs.declared.order.Order.{Order};
-ghost use Rattle.shelves.specs.Tests.{Tests};
+ghost use Rattle.shelves.specs.Lists.{place_in, place_of, renewed, rewritten};
+ghost use Rattle.shelves.specs.Puts.{after_insert, put_check};
 
+use crate::rank::Rank;
+use crate::shelf::PutRefusal;
 use orders::order::Order;
+use orders::terms::Terms;
 
 pub trait Slots: Drop {
     // The orders, by place.
@@ -26,28 +30,30 @@ pub trait Slots: Drop {
     fn get(&self, place: usize) -> Option<Order>
         ensures { result ≡ slice_get (orders self.now) place };
 
-    // The first place at which the test holds.
-    fn position<T: Fn(&Order) -> bool>(&self, test: T) -> Option<usize>
-        requires { T.IsAlwaysCallable test }
-        ensures { (p : Order → Bool) → Tests T.Fn test p → result ≡ position p (orders self.now) };
+    // The place of the order with this serial.
+    fn find(&self, serial: u64) -> Option<usize>
+        ensures { result ≡ place_of serial (orders self.now) };
 
-    // Puts an order at a place.
-    fn insert(&mut self, place: usize, new: Order)
-        requires place { place ≤ length (orders self.old) }
-        requires free { length (orders self.old) < room self.old }
-        ensures orders { orders self.new ≡ insert (orders self.old) place new }
+    // The place of a new order: behind all in front that come before it.
+    fn place<R: Rank>(&self, new: &Order) -> usize
+        ensures { result ≡ place_in R.Rank.before new.now (orders self.now) };
+
+    // Puts an order at a place, or behind all where fewer orders are there, unless every slot is used.
+    fn insert(&mut self, place: usize, new: Order) -> Result<(), PutRefusal>
+        ensures answer { result ≡ put_check (nat_le (room self.old) (length (orders self.old))) false }
+        ensures orders { orders self.new ≡ after_insert result place new (orders self.old) }
         ensures room { room self.new ≡ room self.old };
 
     // Takes out the order at a place.
-    fn remove(&mut self, place: usize)
-        requires { place < length (orders self.old) }
+    fn remove(&mut self, place: usize) -> Option<Order>
+        ensures answer { result ≡ slice_get (orders self.old) place }
         ensures orders { orders self.new ≡ remove (orders self.old) place }
         ensures room { room self.new ≡ room self.old };
 
-    // Writes another order at a place.
-    fn set(&mut self, place: usize, order: Order)
-        requires { place < length (orders self.old) }
-        ensures orders { orders self.new ≡ slice_set (orders self.old) place order }
+    // Gives the order at a place a new balance and new terms, and answers with the order as it was.
+    fn write(&mut self, place: usize, balance: u32, terms: Terms) -> Option<Order>
+        ensures answer { result ≡ slice_get (orders self.old) place }
+        ensures orders { orders self.new ≡ rewritten (orders self.old) place balance terms }
         ensures room { room self.new ≡ room self.old };
 }
 
@@ -57,4 +63,12 @@ pub trait Vacant<'a, T>: Slots {
     fn vacant(at: &'a mut [T]) -> Self
         ensures orders { Self.orders result ≡ [] }
         ensures room { Self.room result ≡ length at.old };
+}
+
+// Gives an order a new balance and new terms.
+pub fn renew(order: &mut Order, balance: u32, terms: Terms)
+    ensures { order.new ≡ renewed order.old balance terms }
+{
+    order.balance = balance;
+    order.terms = terms;
 }

@@ -3,4 +3,4 @@ use Rattle.chain.specs.Chains.{slot}
 use Rattle.chain.proofs.linked.Linked.slot.Given as goal
 
 abbrev pub invariant-loop : goal.invariant-loop
-invariant-loop l = l.at ≡ slot l.self l.counter
+invariant-loop l = l.at ≡ slot l.self.links l.counter
