@@ -11,6 +11,7 @@ pub struct Price(pub u32);
 impl fmt::Display for Price {
     ghost output = { λ p. Some (price_text p.0) };
 
+    #[tactic(auto, using(crate::proofs::Decimals::decimals))]
     fn fmt<W: fmt::Write>(&self, f: &mut fmt::Formatter<W>) -> fmt::Result {
         write!(f, "{}.{:03}", self.0 / 1000, self.0 % 1000)
     }

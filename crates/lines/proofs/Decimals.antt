@@ -1,10 +1,10 @@
+-- The three decimals of a price, as `{:03}` writes them. Assumes nothing.
 use Rattle.std.proofs.Common.{◌≡◌, ℕ, ◌+◌, ◌-◌, ◌/◌, ◌%◌, ◌^◌, ◌<◌, ◌≤◌, [], ◌∷◌, ◌++◌, ⊎_elim, arith}
 use Rattle.std.specs.Fmt.{char_count, decimal, format_spec, padded_integral, styled_decimal}
 use Rattle.std.proofs.lemmas.Bool.{cases_lt}
 use Rattle.std.proofs.lemmas.Fmt.{decimal_digit, decimal_step}
-use Rattle.lines.proofs.price.PriceDisplay.fmt.Goals as goal
 
--- `{:03}` writes three digits
+-- three digits are written
 abbrev IsPadded : ℕ → Type 0
 IsPadded n = styled_decimal (format_spec 32 0 4 3 (2 ^ 64 - 1)) n ≡ (48 + n / 100) ∷ (48 + n / 10 % 10) ∷ (48 + n % 10) ∷ []
 
@@ -32,12 +32,18 @@ three n g h =
 padded : (n : ℕ) → n < 1000 → IsPadded n
 padded n h = ⊎_elim (one n) (λ g. ⊎_elim (two n g) (λ k. three n k h) (cases_lt n 100)) (cases_lt n 10)
 
-decimals : (p : ℕ) → styled_decimal (format_spec 32 0 4 3 (2 ^ 64 - 1)) (p % 1000) ≡ decimal (p / 100 % 10) ++ (decimal (p / 10 % 10) ++ decimal (p % 10))
-decimals p =
-    let high : p % 1000 / 100 ≡ p / 100 % 10 = omega arith in
-    let mid : p % 1000 / 10 % 10 ≡ p / 10 % 10 = omega arith in
-    let low : p % 1000 % 10 ≡ p % 10 = omega arith in
-    rw (decimal_digit (p / 100 % 10) (omega arith), decimal_digit (p / 10 % 10) (omega arith), decimal_digit (p % 10) (omega arith), ← high, ← mid, ← low) (padded (p % 1000) (omega arith))
+-- the same as the three numbers, each of one digit
+pub in_digits : (n : ℕ) → n < 1000 → styled_decimal (format_spec 32 0 4 3 (2 ^ 64 - 1)) n ≡ decimal (n / 100) ++ (decimal (n / 10 % 10) ++ decimal (n % 10))
+in_digits n h = rw (decimal_digit (n / 100) (omega arith), decimal_digit (n / 10 % 10) (omega arith), decimal_digit (n % 10) (omega arith)) (padded n h)
 
-pub returns-clause-writes : goal.returns-clause-writes
-returns-clause-writes g c = rw (c.laid_out.ensures, decimals c.args.self.now.0) at c.write.ensures.writes
+module _ (p : ℕ) where
+  pub tenths : p % 1000 / 100 ≡ p / 100 % 10
+  tenths = omega arith
+
+  pub hundredths : p % 1000 / 10 % 10 ≡ p / 10 % 10
+  hundredths = omega arith
+
+  pub thousandths : p % 1000 % 10 ≡ p % 10
+  thousandths = omega arith
+
+pub ruleset decimals = (in_digits, tenths, hundredths, thousandths)
